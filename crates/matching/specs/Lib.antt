@@ -1,0 +1,3 @@
+pub mod Utf8
+pub mod Position
+pub mod Contracts
