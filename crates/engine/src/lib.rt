@@ -1,1 +1,4 @@
+// The engine: grammar check, stack, token queue, attempts, call tracker, evaluation and run.
+pub mod call_limit_tracker;
+pub mod parser_state;
 pub mod state;

@@ -1,0 +1,9 @@
+pub mod Ending
+pub mod Grammar
+pub mod Nullable
+pub mod Forest
+pub mod Reading
+pub mod Outcome
+pub mod Pest
+pub mod Ford
+pub mod Cases
