@@ -7,3 +7,4 @@ pub mod Outcome
 pub mod Pest
 pub mod Ford
 pub mod Cases
+pub mod Areas
