@@ -8,7 +8,8 @@ use lib.ListN.{length, getD, take}
 use lib.Seq.{take-suc}
 use Rattle.engine.specs.Ending.{Span}
 use Rattle.engine.specs.Areas.{pairs, span, Outside}
-use Rattle.engine.specs.Pairs.{put, copied, drained, refilled}
+use Rattle.engine.specs.declared.areas.Pair.{Pair}
+use Rattle.engine.specs.Pairs.{pair, put, copied, drained, refilled}
 use Rattle.engine.proofs.Regions.{outside-refl, outside-trans, outside-wider, outside-put, pairs-put, pairs-length, pairs-getD}
 
 -- ── The loops' invariants ──
@@ -80,3 +81,7 @@ refilled-pairs a low p (suc n) h g f =
     ∙ pairs-put span d 0 (low + n) (getD d (256 + k * 2) 0) (getD d (256 + k * 2 + 1) 0) (omega (arith, o .size))
     ∙ ap₂ (λ (w : Span) (l : List Span). w ∷ l) (ap₂ span (sym x) (sym y)) (refilled-pairs a low p n (omega arith) (omega arith) f)
     ∙ ap (λ (l : List Span). l ++ pairs span a 0 low) (sym turned)
+
+-- A pair that was read, written elsewhere.
+pub copied-by : (a : List ℕ) {a′ : List ℕ} (to from : ℕ) (x : Pair) → x ≡ pair a from → a′ ≡ put a to (x .first) (x .second) → a′ ≡ copied a to from
+copied-by a to from x e f = f ∙ ap (λ (y : Pair). put a to (y .first) (y .second)) e

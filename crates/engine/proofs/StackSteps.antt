@@ -59,6 +59,14 @@ module _ (x : Span) (rest c p : List Span) (k : Checkpoint) (ks : List Checkpoin
   taken-full : suc (length rest) ≡ k .lowest → k .lowest ≤ k .height → 1024 ≤ debt (k ∷ ks) → Take.full ≡ taken-from (x ∷ rest) (pest c p (k ∷ ks))
   taken-full e o d = rw (eq-eqb (suc (length rest)) (k .lowest) e, lt-ltb 1024 ((k .height - (k .lowest - 1)) + debt ks) (omega arith))
 
+-- What `restore` picks is the same list where nothing was popped.
+restored-pick : (tall low : ℕ) (q z : List Span) (ks : List Checkpoint) → Dec (low < tall)
+    → (if ltb low tall then pest (reverse (take (tall - low) q) ++ z) (drop (tall - low) q) ks else pest z q ks) ≡ pest (reverse (take (tall - low) q) ++ z) (drop (tall - low) q) ks
+restored-pick tall low q z ks (yes l) = rw (lt-ltb low tall l)
+restored-pick tall low q z ks (no n) =
+    let e : tall - low ≡ 0 = omega arith in
+    rw (le-ltb low tall (omega arith), e)
+
 module _ (a : List ℕ) (s : Stack) (r : StackReady a s) where
   abbrev h : ℕ
   h = s .height
@@ -185,3 +193,113 @@ module _ (a : List ℕ) (s : Stack) (r : StackReady a s) where
   pub pop-full : (h ≡ 0 → ⊥) → (x : Pair) → x ≡ pair a (0 + (h - 1) * 2) → (c ≡ 0 → ⊥) → (top : Pair) → top ≡ pair a (2816 + (c - 1) * 2) → top .second ≡ h → 1024 ≤ p
       → (Take.full ≡ taken (stack-of a s)) × OutsideStack a a
   pop-full hz x ex cz top et e l = full-at hz x ex (record { start = record { 0 = x .first }; end = record { 0 = x .second } }) (refl, refl) cz top et e l
+
+  -- ── clear_snapshot ──
+  pub clear-none : c ≡ 0 → (stack-of a s ≡ clear-snapshot (stack-of a s)) × OutsideStack a a
+  unfolding pairs
+  clear-none e = (rw e, stack-refl a)
+
+  module _ (cz : c ≡ 0 → ⊥) (top : Pair) (et : top ≡ pair a (2816 + (c - 1) * 2)) where
+    -- What the innermost checkpoint owes, dropped.
+    left-is : owed (p - (top .first - top .second)) ≡ drop (top .first - top .second) (owed p)
+    left-is =
+        let t : Top h p (top .first) (top .second) (debt (marks (c - 1))) = top-is cz top et in
+        sym (pairs-drop span a 256 (top .first - top .second) p (p - (top .first - top .second)) (omega (arith, t .owing)))
+
+    pub clear-one : c ≡ 1 → (stack-of a (counts h (p - (top .first - top .second)) 0) ≡ clear-snapshot (stack-of a s)) × OutsideStack a a
+    unfolding pairs
+    clear-one e =
+        let last : marks (c - 1) ≡ [] = rw e in
+        (rw (lengths-is cz top et, last) (pest-ext refl left-is refl), stack-refl a)
+
+    module _ (more : c ≡ 1 → ⊥) (outer : Pair) (eo : outer ≡ pair a (2816 + (c - 2) * 2)) where
+      outer-is : marks (c - 1) ≡ checkpoint (outer .first) (outer .second) ∷ marks (c - 2)
+      outer-is = rw eo (pairs-last checkpoint a 2816 (c - 1) (c - 2) (omega arith))
+
+      pub outer-top : Top (top .first) (debt (marks (c - 1))) (outer .first) (outer .second) (debt (marks (c - 2)))
+      outer-top =
+          let g : Fits (top .first) (marks (c - 1)) = below-fits (rw (lengths-is cz top et) at fits-is) in
+          top-fits (debt (marks (c - 1))) (rw outer-is at g) (ap debt outer-is)
+
+      cleared-is : clear-snapshot (stack-of a s)
+          ≡ pest (entries h) (take (outer .second - min (outer .second) (top .second)) (owed p) ++ drop (top .first - top .second) (owed p)) (checkpoint (outer .first) (min (outer .second) (top .second)) ∷ marks (c - 2))
+      cleared-is = rw (lengths-is cz top et, outer-is)
+
+      -- The outer checkpoint has been as low: it keeps nothing more.
+      pub clear-all : outer .second ≤ top .second → (stack-of a (counts h (p - (top .first - top .second)) (c - 1)) ≡ clear-snapshot (stack-of a s)) × OutsideStack a a
+      clear-all l =
+          let m : min (outer .second) (top .second) ≡ outer .second = omega arith in
+          let z : outer .second - min (outer .second) (top .second) ≡ 0 = omega arith in (
+            pest-ext refl
+                (left-is ∙ ap (λ (n : ℕ). take n (owed p) ++ drop (top .first - top .second) (owed p)) (sym z))
+                (outer-is ∙ ap (λ (n : ℕ). checkpoint (outer .first) n ∷ marks (c - 2)) (sym m))
+                ∙ sym cleared-is,
+            stack-refl a,
+          )
+
+      pub clear-some : (a₁ a₂ : List ℕ) → top .second < outer .second → a₁ ≡ put a (2816 + (c - 2) * 2) (outer .first) (top .second)
+          → a₂ ≡ drained a₁ (p - (top .first - top .second)) (p - (outer .second - top .second)) (outer .second - top .second)
+          → (stack-of a₂ (counts h (p - (top .first - top .second) + (outer .second - top .second)) (c - 1)) ≡ clear-snapshot (stack-of a s)) × OutsideStack a a₂
+      clear-some a₁ a₂ l e₁ e₂ =
+          let t : Top h p (top .first) (top .second) (debt (marks (c - 1))) = top-is cz top et in
+          let t₁ : Top (top .first) (debt (marks (c - 1))) (outer .first) (outer .second) (debt (marks (c - 2))) = outer-top in
+          let to : ℕ = p - (top .first - top .second) in
+          let from : ℕ = p - (outer .second - top .second) in
+          let n : ℕ = outer .second - top .second in
+          let hn : from + n ≡ p = omega (arith, t .owing, t₁ .under) in
+          let ht : to ≤ from = omega (arith, t .owing, t₁ .under) in
+          let hs : to + n ≤ p = omega (arith, t .owing, t₁ .under) in
+          let o₁ : Outside (2816 + (c - 2) * 2) (2816 + (c - 2) * 2 + 2) a a₁ = rw e₁ (outside-put a (2816 + (c - 2) * 2) (outer .first) (top .second)) in
+          let o₂ : Outside (256 + to * 2) (256 + (to + n) * 2) a₁ a₂ = rw e₂ (drained-outside a₁ to from n) in
+          let m : min (outer .second) (top .second) ≡ top .second = omega arith in
+          let k : c - 1 ≡ suc (c - 2) = omega arith in
+          let same₁ : (j : ℕ) → j ≤ p → pairs span a₁ 256 j ≡ owed j = λ j hj. sym (pairs-same span a a₁ 256 j (same-below 256 (256 + j * 2) (omega arith) o₁)) in
+          let cache₂ : pairs span a₂ 0 h ≡ entries h =
+          sym (pairs-same span a a₁ 0 h (same-below 0 (0 + h * 2) (omega arith) o₁) ∙ pairs-same span a₁ a₂ 0 h (same-below 0 (0 + h * 2) (omega arith) o₂)) in
+          let popped₂ : pairs span a₂ 256 (to + n) ≡ take n (owed p) ++ drop (top .first - top .second) (owed p) =
+          ap (λ (b : List ℕ). pairs span b 256 (to + n)) e₂
+          ∙ drained-pairs a₁ to from n ht (omega arith) (omega (arith, o₁ .size))
+          ∙ ap₂ (λ (q q′ : List Span). take n q ++ q′) (ap (λ (j : ℕ). pairs span a₁ 256 j) hn ∙ same₁ p (omega arith)) (same₁ to (omega arith) ∙ left-is) in
+          let lengths₂ : pairs checkpoint a₂ 2816 (c - 1) ≡ checkpoint (outer .first) (top .second) ∷ marks (c - 2) =
+          sym (pairs-same checkpoint a₁ a₂ 2816 (c - 1) (same-above 2816 (2816 + (c - 1) * 2) (omega arith) o₂))
+          ∙ ap₂ (λ (b : List ℕ) (j : ℕ). pairs checkpoint b 2816 j) e₁ k
+          ∙ pairs-put checkpoint a 2816 (c - 2) (outer .first) (top .second) (omega arith) in (
+            pest-ext cache₂
+                (popped₂ ∙ ap (λ (j : ℕ). take (outer .second - j) (owed p) ++ drop (top .first - top .second) (owed p)) (sym m))
+                (lengths₂ ∙ ap (λ (j : ℕ). checkpoint (outer .first) j ∷ marks (c - 2)) (sym m))
+                ∙ sym cleared-is,
+            stack-trans (stack-above (omega arith) (omega arith) o₁) (stack-below (omega arith) o₂),
+          )
+
+    -- ── restore ──
+    kept-is : (if ltb (top .second) (length (entries h)) then truncate (top .second) (entries h) else entries h) ≡ entries (top .second)
+    kept-is = go (decLt (top .second) h)
+      where
+        go : Dec (top .second < h) → (if ltb (top .second) (length (entries h)) then truncate (top .second) (entries h) else entries h) ≡ entries (top .second)
+        go (yes l) = rw (pairs-length span a 0 h, lt-ltb (top .second) h l) (pairs-drop span a 0 (h - top .second) h (top .second) (omega arith))
+        go (no n) =
+            let t : Top h p (top .first) (top .second) (debt (marks (c - 1))) = top-is cz top et in
+            let e : h ≡ top .second = omega (arith, t .under) in
+            rw (pairs-length span a 0 h, le-ltb (top .second) h (omega arith)) (ap (λ (m : ℕ). entries m) e)
+
+    restored-is : restore (stack-of a s) ≡ pest (reverse (take (top .first - top .second) (owed p)) ++ entries (top .second)) (drop (top .first - top .second) (owed p)) (marks (c - 1))
+    restored-is = rw (lengths-is cz top et, kept-is) (restored-pick (top .first) (top .second) (owed p) (entries (top .second)) (marks (c - 1)) (decLt (top .second) (top .first)))
+
+    pub restore-ok : (a′ : List ℕ) → a′ ≡ refilled a (top .second) p (top .first - top .second)
+        → (stack-of a′ (counts (top .first) (p - (top .first - top .second)) (c - 1)) ≡ restore (stack-of a s)) × OutsideStack a a′
+    restore-ok a′ e =
+        let t : Top h p (top .first) (top .second) (debt (marks (c - 1))) = top-is cz top et in
+        let n : ℕ = top .first - top .second in
+        let o : Outside (0 + top .second * 2) (0 + (top .second + n) * 2) a a′ = rw e (refilled-outside a (top .second) p n) in
+        let j : top .first ≡ top .second + n = omega (arith, t .own) in (
+          pest-ext
+              (ap₂ (λ (b : List ℕ) (m : ℕ). pairs span b 0 m) e j ∙ refilled-pairs a (top .second) p n (omega (arith, t .owing)) (omega (arith, t .high)) (r .room))
+              (sym (pairs-same span a a′ 256 (p - n) (same-above 256 (256 + (p - n) * 2) (omega (arith, t .high)) o)) ∙ left-is)
+              (sym (pairs-same checkpoint a a′ 2816 (c - 1) (same-above 2816 (2816 + (c - 1) * 2) (omega (arith, t .high)) o)))
+              ∙ sym restored-is,
+          stack-below (omega (arith, t .high)) o,
+        )
+
+  pub restore-none : c ≡ 0 → (stack-of a (counts 0 p c) ≡ restore (stack-of a s)) × OutsideStack a a
+  unfolding pairs
+  restore-none e = (rw e, stack-refl a)

@@ -42,3 +42,12 @@ pub fn put_pair(area: &mut [u32], region: usize, index: usize, x: u32, y: u32)
     area[at] = x;
     area[at + 1] = y;
 }
+
+// Copies the pair at an index of one region to an index of another.
+pub fn copy_pair(area: &mut [u32], region: usize, to: usize, source: usize, from: usize)
+    requires { ⌜ (region + to * 2 + 2 ≤ length (now area)) × (source + from * 2 + 2 ≤ length (now area)) ⌝ }
+    ensures { λ _. ⌜ now (area .exit) ≡ copied (now (area .entry)) (region + to * 2) (source + from * 2) ⌝ }
+{
+    let x = pair_at(area, source, from);
+    put_pair(area, region, to, x.first, x.second);
+}
