@@ -4,3 +4,4 @@ pub mod Exact
 pub mod Regions
 pub mod Moves
 pub mod StackSteps
+pub mod SoundLaws
