@@ -1,3 +1,7 @@
 pub mod StackLaws
 pub mod QueueLaws
 pub mod Exact
+pub mod Regions
+pub mod Moves
+pub mod StackSteps
+pub mod SoundLaws

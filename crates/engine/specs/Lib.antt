@@ -8,3 +8,6 @@ pub mod Pest
 pub mod Ford
 pub mod Cases
 pub mod Areas
+pub mod Pairs
+pub mod Bounded
+pub mod Sound

@@ -1,4 +1,5 @@
 // The engine: grammar check, stack, token queue, attempts, call tracker, evaluation and run.
+pub mod areas;
 pub mod attempts;
 pub mod call_limit_tracker;
 pub mod parser_state;

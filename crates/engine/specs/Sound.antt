@@ -1,0 +1,48 @@
+-- What holds of every stack of a run, what a function of the stack asks of scratch, and what it leaves alone.
+use mathlib.Core.Path.{_≡_}
+use mathlib.Core.List.{List, [], _∷_}
+use Prim.Native.Nat.{ℕ, _≤_, _<_}
+use lib.ListN.{length, getD}
+use Rattle.engine.specs.declared.stack.Stack.{Stack}
+use Rattle.engine.specs.declared.parser_state.ParserState.{ParserState}
+use Rattle.engine.specs.Ending.{Checkpoint}
+use Rattle.engine.specs.Reading.{most-entries, most-debt, most-attempts, debt}
+use Rattle.engine.specs.Pest as Pest
+use Rattle.engine.specs.Areas.{stack-of, positives-at, lengths-at, scratch-size}
+
+-- The checkpoints fit a stack of height h: none is higher than a stack may be, and each one's lowest height is at most its own
+-- height and the height of the stack above it.
+pub data Fits : ℕ → List Checkpoint → Type 0 where
+  fits-none : {h : ℕ} → h ≤ most-entries → Fits h []
+  fits-one : {h : ℕ} {k : Checkpoint} {ks : List Checkpoint}
+      → h ≤ most-entries → k .lowest ≤ h → k .lowest ≤ k .height → Fits (k .height) ks → Fits h (k ∷ ks)
+
+-- The popped entries number the total debt, "total debt 1,024".
+pub record Sound (v : Pest.Stack) : Type 0 where
+  pub fits : Fits (length (v .cache)) (v .lengths)
+  pub owed : length (v .popped) ≡ debt (v .lengths)
+  pub low : debt (v .lengths) ≤ most-debt
+
+-- As many checkpoints as the last region holds: one for each open call.
+abbrev pub most-checkpoints : ℕ
+most-checkpoints = 1024
+
+-- What every function of the stack asks.
+pub record StackReady (scratch : List ℕ) (s : Stack) : Type 0 where
+  pub room : scratch-size ≤ length scratch
+  pub tall : s .height ≤ most-entries
+  pub owing : s .popped ≤ most-debt
+  pub few : s .checkpoints ≤ most-checkpoints
+  pub sound : Sound (stack-of scratch s)
+
+-- The same of a state: its two lists of attempts lie in their regions besides.
+pub record StateReady (scratch : List ℕ) (s : ParserState) : Type 0 where
+  pub stack : StackReady scratch (s .stack)
+  pub positives : s .attempts .positives ≤ most-attempts
+  pub negatives : s .attempts .negatives ≤ most-attempts
+
+-- b is a, changed in the stack's regions at most: the attempts, which lie between them, and what stands after them are as they were.
+pub record OutsideStack (a b : List ℕ) : Type 0 where
+  pub size : length b ≡ length a
+  pub between : (k : ℕ) → positives-at ≤ k → k < lengths-at → getD a k 0 ≡ getD b k 0
+  pub above : (k : ℕ) → scratch-size ≤ k → getD a k 0 ≡ getD b k 0
