@@ -2,3 +2,5 @@ pub mod StackLaws
 pub mod QueueLaws
 pub mod Exact
 pub mod TrackerLaws
+pub mod AreaLaws
+pub mod TokenLaws
