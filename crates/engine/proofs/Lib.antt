@@ -5,3 +5,6 @@ pub mod Regions
 pub mod Moves
 pub mod StackSteps
 pub mod SoundLaws
+pub mod TrackerLaws
+pub mod AreaLaws
+pub mod TokenLaws

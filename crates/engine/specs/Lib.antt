@@ -11,3 +11,5 @@ pub mod Areas
 pub mod Pairs
 pub mod Bounded
 pub mod Sound
+pub mod Entry
+pub mod Tokens

@@ -1,3 +1,10 @@
+ghost use mathlib.Core.Path.{_≡_};
+ghost use mathlib.Core.Bool.{Bool, false};
+ghost use Rattle.engine.specs.declared.call_limit_tracker.LimitReached.the-variants as Reached;
+ghost use Rattle.engine.specs.Pest.{exceeded, one-more, enter};
+ghost use Rattle.engine.specs.Areas.{limit-of, tracker-of};
+ghost use Rattle.engine.specs.Entry.{entered-of, by-depth};
+
 // The limit that was reached (pest's `LimitKind`).
 pub enum LimitKind {
     Call,
@@ -15,4 +22,79 @@ pub struct CallLimitTracker {
     pub current: u32,
     pub limit: u32,
     pub reached: LimitReached,
+}
+
+// What an entry answers, with the tracker after it.
+pub enum Admitted {
+    Yes(CallLimitTracker),
+    No(CallLimitTracker),
+}
+
+// Whether the counted calls number the call limit.
+fn exceeded(t: CallLimitTracker) -> bool
+    ensures { λ r. ⌜ r ≡ exceeded (limit-of (t .current) (t .limit)) ⌝ }
+{
+    let current = t.current;
+    let limit = t.limit;
+    if limit == 0 { false } else { limit <= current }
+}
+
+// One counted call more. Where there is no limit nothing is counted, so that the count never overflows.
+fn one_more(t: CallLimitTracker) -> CallLimitTracker
+    requires { ⌜ exceeded (limit-of (t .current) (t .limit)) ≡ false ⌝ }
+    ensures { λ r. ⌜ tracker-of r ≡ record { current-call-limit = one-more (tracker-of t .current-call-limit); limit-reached = tracker-of t .limit-reached } ⌝ }
+{
+    let current = t.current;
+    let limit = t.limit;
+    if limit == 0 {
+        t
+    } else {
+        let next = current + 1;
+        CallLimitTracker { current: next, ..t }
+    }
+}
+
+// The depth limit, which is tested last: `next` is the tracker of an entry that it lets in.
+fn by_depth(t: CallLimitTracker, next: CallLimitTracker, room: bool) -> Admitted
+    ensures { λ r. ⌜ entered-of r ≡ by-depth room (tracker-of t) (tracker-of next) ⌝ }
+{
+    if room {
+        Admitted::Yes(next)
+    } else {
+        Admitted::No(CallLimitTracker {
+            reached: LimitReached::By(LimitKind::Stack),
+            ..t
+        })
+    }
+}
+
+// The limits where no cause is set: the call limit before the depth limit.
+fn by_limits(t: CallLimitTracker, counted: bool, room: bool) -> Admitted
+    requires { ⌜ t .reached ≡ Reached.No ⌝ }
+    ensures { λ r. ⌜ entered-of r ≡ enter room counted (tracker-of t) ⌝ }
+{
+    if counted {
+        if exceeded(t) {
+            Admitted::No(CallLimitTracker {
+                reached: LimitReached::By(LimitKind::Call),
+                ..t
+            })
+        } else {
+            let next = one_more(t);
+            by_depth(t, next, room)
+        }
+    } else {
+        by_depth(t, t, room)
+    }
+}
+
+// `enter`, by value: "A cause once set refuses every later entry."
+pub fn entered(t: CallLimitTracker, counted: bool, room: bool) -> Admitted
+    ensures { λ r. ⌜ entered-of r ≡ enter room counted (tracker-of t) ⌝ }
+{
+    let reached = t.reached;
+    match reached {
+        LimitReached::By(_) => Admitted::No(t),
+        LimitReached::No => by_limits(t, counted, room),
+    }
 }

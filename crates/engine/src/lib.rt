@@ -2,6 +2,8 @@
 pub mod areas;
 pub mod attempts;
 pub mod call_limit_tracker;
+pub mod entry;
 pub mod parser_state;
+pub mod queueable_token;
 pub mod stack;
 pub mod state;
