@@ -1,3 +1,4 @@
 pub mod StackLaws
 pub mod QueueLaws
 pub mod Exact
+pub mod FieldLaws

@@ -8,3 +8,4 @@ pub mod Pest
 pub mod Ford
 pub mod Cases
 pub mod Areas
+pub mod Lines
