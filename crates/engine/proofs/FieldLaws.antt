@@ -1,11 +1,11 @@
 -- A signed 32-bit field as the machine reads it: what it reads back is the field, and its sign decides how it is read as a natural number.
 use Prim.Native.Nat.{ℕ, _*_, _-_, _<_, _^_}
 use native.Mathlib.Omega.{arith}
-use mathlib.Core.Path.{_≡_, refl, ap, ap₂, _∙_}
+use mathlib.Core.Path.{_≡_, refl, sym, ap, ap₂, _∙_}
 use mathlib.Core.Bool.{Bool, true, false, _&&_, true≢false}
 use mathlib.Core.List.{List}
 use lib.Dec.{T}
-use lib.ListN.{getD}
+use lib.ListN.{length, getD, List·getD-eq-default}
 use lib.IntN.{ℤ, pos, negsuc, natAbs}
 use lib.Signed.{mag, ltZ, leZ, nonNeg}
 use mir.Syntax.{w32, w64}
@@ -14,7 +14,7 @@ use mir.Facts.{toZ-ofZ}
 use borrow.Author.Tests.{ltb-true, le-leb}
 use Rattle.engine.specs.declared.node.Line.{Line}
 use Rattle.engine.specs.declared.node.Ends.{Ends}
-use Rattle.engine.specs.Grammar.{natural, count, node-at}
+use Rattle.engine.specs.Grammar.{natural, row, count, node-at}
 use Rattle.engine.specs.Lines.{line-of, ends-of}
 
 pub back : (x : ℤ) → SFits w32 x → toZ w32 (ofZ w32 x) ≡ x
@@ -77,3 +77,11 @@ module _ (ns : List ℤ) (l : ℕ) where
       → (a && (b && c)) ≡ (count (node-at ns l .a) && (count (node-at ns l .b) && count (node-at ns l .c)))
   unfolding node-at
   counts-read e₁ e₂ e₃ = ap₂ (λ x y. x && y) e₁ (ap₂ (λ x y. x && y) e₂ e₃)
+
+-- ── A table of twenty rows ──
+module _ (rows : List Bool) (k : ℕ) where
+  pub row-first : k < 1 → getD rows 0 false ≡ row rows false (pos k)
+  row-first h = let e : 0 ≡ k - 1 = omega arith in ap (λ (i : ℕ). getD rows i false) e
+
+  pub row-none : length rows ≡ 20 → 20 < k → false ≡ row rows false (pos k)
+  row-none e h = sym (List·getD-eq-default rows false (omega arith))

@@ -2,3 +2,5 @@ pub mod StackLaws
 pub mod QueueLaws
 pub mod Exact
 pub mod FieldLaws
+pub mod NullableLaws
+pub mod FirstLine

@@ -1,7 +1,9 @@
 // The engine: grammar check, stack, token queue, attempts, call tracker, evaluation and run.
 pub mod attempts;
 pub mod call_limit_tracker;
+pub mod grammar;
 pub mod node;
+pub mod nullable;
 pub mod parser_state;
 pub mod stack;
 pub mod state;

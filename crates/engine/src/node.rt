@@ -1,10 +1,10 @@
 // Node lines: four signed numbers each. All signed arithmetic of the grammar stands here.
 ghost use mathlib.Core.Path.{_≡_};
-ghost use mathlib.Core.Bool.{_&&_};
+ghost use mathlib.Core.Bool.{false, _&&_};
 ghost use Prim.Native.Nat.{_*_, _≤_, _<_};
 ghost use lib.IntN.{pos};
 ghost use lib.ListN.{length, getD};
-ghost use Rattle.engine.specs.Grammar.{natural, count, node-at};
+ghost use Rattle.engine.specs.Grammar.{natural, row, count, node-at};
 ghost use Rattle.engine.specs.Lines.{line-of, ends-of};
 
 // A node whose fields are read as natural numbers.
@@ -76,4 +76,18 @@ pub fn counts_at(nodes: &[i32], line: usize) -> bool
     let b = is_count(nodes, line * 4 - 2);
     let c = is_count(nodes, line * 4 - 1);
     a & (b & c)
+}
+
+// What a table of twenty rows, one for each kind, says of a kind.
+pub fn row_of(rows: &[bool; 20], kind: usize) -> bool
+    requires { ⌜ length (now rows) ≡ 20 ⌝ }
+    ensures { λ r. ⌜ r ≡ row (now (rows .entry)) false (pos kind) ⌝ }
+{
+    if kind < 1 {
+        return rows[0];
+    }
+    if 20 < kind {
+        return false;
+    }
+    rows[kind - 1]
 }
