@@ -1,15 +1,15 @@
 -- The first byte alone says which row of RFC 3629's grammar a character can be of, since the rows' first ranges ascend. So `decode` looks
 -- that row up and tests the bytes after the first: `decode-lead`, by which the laws of characters go.
-use mathlib.Core.Path.{_≡_, refl}
-use mathlib.Core.Bool.{Bool, true, false, _&&_, cond}
+use mathlib.Core.Path.{_≡_, refl, sym, ap, _∙_, subst}
+use mathlib.Core.Bool.{Bool, true, false, _&&_, _||_, cond}
 use mathlib.Core.List.{List, [], _∷_}
 use mathlib.Core.Option.{Option, none, some}
-use Prim.Native.Nat.{ℕ, suc, _-_, _≤_, _<_}
+use Prim.Native.Nat.{ℕ, zero, suc, _-_, _≤_, _<_}
 use mathlib.Core.Logic.{_≢_}
 use native.Mathlib.Omega.{arith}
 use native.Mathlib.Decide.{decLe}
 use lib.Dec.{leb}
-use lib.ListN.{length, drop}
+use lib.ListN.{length, drop, getD}
 use borrow.Author.Tests.{leb-true, le-leb, lt-leb}
 use Rattle.matching.specs.Utf8.{Range, range, within, tail, utf8-char, fits, value-of, Character, first-of, decode}
 
@@ -95,6 +95,100 @@ decode-lead a x = first-lead utf8-char 0 a x refl
 pub decode-nil : decode [] ≡ none
 unfolding decode
 decode-nil = refl
+
+-- How many bytes a character has that begins so; 0 where none does.
+abbrev pub size-by : Option (List Range) → ℕ
+size-by none = 0
+size-by (some rs) = suc (length rs)
+
+abbrev pub lead : ℕ → ℕ
+lead a = size-by (row a)
+
+-- A character that was decoded: its row, and that the bytes after the first fit it.
+pub record Led (a : ℕ) (x : List ℕ) (c : Character) : Type 0 where
+  pub ranges : List Range
+  pub row-is : row a ≡ some ranges
+  pub fit : fits ranges x ≡ true
+  pub size-is : c .size ≡ lead a
+
+pub led : (a : ℕ) (x : List ℕ) (c : Character) → decode (a ∷ x) ≡ some c → Led a x c
+led a x c e = go (row a) refl (sym (decode-lead a x) ∙ e)
+  where
+    put : (rs : List Range) (d : Character) → row a ≡ some rs → d .size ≡ suc (length rs) → (b : Bool) → fits rs x ≡ b → cond b (some d) none ≡ some c → Led a x c
+    put rs d q k true f e =
+        let p : d .size ≡ c .size = cc in
+        record { ranges = rs; row-is = q; fit = f; size-is = sym p ∙ k ∙ ap size-by (sym q) }
+    put rs d q k false f e = let z : _≡_ {A = ℕ} 0 1 = cc in absurd (omega arith)
+
+    go : (o : Option (List Range)) → row a ≡ o → by-row o a x ≡ some c → Led a x c
+    go none q e = let z : _≡_ {A = ℕ} 0 1 = cc in absurd (omega arith)
+    go (some rs) q e = put rs _ q refl (fits rs x) refl e
+
+-- ── The table's rule: no first byte is a tail, all others are, and there are three of them at most ──
+abbrev pub is-tail : ℕ → Bool
+is-tail b = within (tail .low) (tail .high) b
+
+abbrev of-tails : Range → Bool
+of-tails r = leb (tail .low) (r .low) && leb (r .high) (tail .high)
+
+abbrev pub all-tails : List Range → Bool
+all-tails [] = true
+all-tails (r ∷ rs) = of-tails r && all-tails rs
+
+abbrev ruled : List (List Range) → Bool
+ruled [] = true
+ruled ([] ∷ fs) = false
+ruled ((r ∷ rs) ∷ fs) = ((leb (suc (r .high)) (tail .low) || leb (suc (tail .high)) (r .low)) && (all-tails rs && leb (length rs) 3)) && ruled fs
+
+pub record Ruled (a : ℕ) (rs : List Range) : Type 0 where
+  pub no-tail : is-tail a ≡ false
+  pub tails : all-tails rs ≡ true
+  pub few : length rs ≤ 3
+
+ruled-in : (fs : List (List Range)) (a : ℕ) (rs : List Range) → ruled fs ≡ true → row-in fs a ≡ some rs → Ruled a rs
+ruled-in [] a rs e q = let z : _≡_ {A = ℕ} 0 1 = cc in absurd (omega arith)
+ruled-in ([] ∷ fs) a rs e q = let z : _≡_ {A = ℕ} 0 1 = cc in absurd (omega arith)
+ruled-in ((r ∷ ts) ∷ fs) a rs e q = go (within (r .low) (r .high) a) refl q (ruled-in fs a rs (and-right own (ruled fs) e))
+  where
+    left : Bool
+    left = leb (suc (r .high)) (tail .low)
+
+    right : Bool
+    right = leb (suc (tail .high)) (r .low)
+
+    rest : Bool
+    rest = all-tails ts && leb (length ts) 3
+
+    own : Bool
+    own = (left || right) && rest
+
+    apart : (x y : Bool) → left ≡ x → right ≡ y → (x || y) ≡ true → (r .low ≤ a) × (a ≤ r .high) → is-tail a ≡ false
+    apart true y p s e w = below (tail .low) (tail .high) a (omega (arith, leb-true (suc (r .high)) (tail .low) p))
+    apart false true p s e w = above (tail .low) (tail .high) a (omega (arith, leb-true (suc (tail .high)) (r .low) s))
+    apart false false p s e w = let z : _≡_ {A = ℕ} 0 1 = cc in absurd (omega arith)
+
+    go : (b : Bool) → within (r .low) (r .high) a ≡ b → cond b (some ts) (row-in fs a) ≡ some rs → (row-in fs a ≡ some rs → Ruled a rs) → Ruled a rs
+    go true w q ih =
+        let o : own ≡ true = and-left own (ruled fs) e in
+        let k : rest ≡ true = and-right (left || right) rest o in
+        let s : ts ≡ rs = cc in
+        subst (Ruled a) s (record { no-tail = apart left right refl refl (and-left (left || right) rest o) (within-true (r .low) (r .high) a w); tails = and-left (all-tails ts) (leb (length ts) 3) k; few = leb-true (length ts) 3 (and-right (all-tails ts) (leb (length ts) 3) k) })
+    go false w q ih = ih q
+
+pub row-ruled : (a : ℕ) (rs : List Range) → row a ≡ some rs → Ruled a rs
+unfolding row
+row-ruled a rs q = ruled-in utf8-char a rs refl q
+
+pub fits-tails : (rs : List Range) (x : List ℕ) → all-tails rs ≡ true → fits rs x ≡ true → (i : ℕ) → i < length rs → is-tail (getD x i 0) ≡ true
+fits-tails [] x t e i h = absurd (omega arith)
+fits-tails (r ∷ rs) [] t e i h = let z : _≡_ {A = ℕ} 0 1 = cc in absurd (omega arith)
+fits-tails (r ∷ rs) (b ∷ x) t e zero h =
+    let n : of-tails r ≡ true = and-left (of-tails r) (all-tails rs) t in
+    let w : (r .low ≤ b) × (b ≤ r .high) = within-true (r .low) (r .high) b (and-left (within (r .low) (r .high) b) (fits rs x) e) in
+    within-is (tail .low) (tail .high) b
+    (omega (arith, leb-true (tail .low) (r .low) (and-left (leb (tail .low) (r .low)) (leb (r .high) (tail .high)) n)))
+    (omega (arith, leb-true (r .high) (tail .high) (and-right (leb (tail .low) (r .low)) (leb (r .high) (tail .high)) n)))
+fits-tails (r ∷ rs) (b ∷ x) t e (suc i) h = fits-tails rs x (and-right (of-tails r) (all-tails rs) t) (and-right (within (r .low) (r .high) b) (fits rs x) e) i (omega arith)
 
 -- ── The rows, by the first byte ──
 row-below : (fs : List (List Range)) (n a : ℕ) → ascend n fs ≡ true → a < n → row-in fs a ≡ none

@@ -11,6 +11,7 @@ use lib.ListN.{length, take, drop, getD, drop-of-length-le}
 use lib.Seq.{drop-cons}
 use Rattle.matching.specs.Utf8.{Range, range, within, fits, mark, with-tails, value-of, first-of, decode}
 use Rattle.matching.specs.Contracts.{char-of}
+use Rattle.matching.specs.declared.utf8.Char.{Char}
 use Rattle.matching.specs.declared.utf8.Char.the-variants.{Of, None}
 use Rattle.matching.proofs.Lead.{within-true, within-is, row, decode-lead}
 
@@ -79,8 +80,9 @@ module _ (s : List ℕ) where
     pub row-fits : (v : ℕ) → fits rs (drop (at + 1) s) ≡ true → with-tails (a - mark (suc (length rs))) (take (length rs) (drop (at + 1) s)) ≡ v → Of (suc (length rs)) v ≡ char-of (first-of ((range a a ∷ rs) ∷ []) (drop at s))
     row-fits v f q = rw (split, own, f, value-lead (length rs) a (drop (at + 1) s), q)
 
-    pub row-decodes : row a ≡ some rs → first-of ((range a a ∷ rs) ∷ []) (drop at s) ≡ decode (drop at s)
-    row-decodes f = rw (split, own) (sym (decode-lead a (drop (at + 1) s) ∙ rw f))
+    -- An answer by one row is the answer, where that row is the byte's.
+    pub row-decodes : (r : Char) → r ≡ char-of (first-of ((range a a ∷ rs) ∷ []) (drop at s)) → row a ≡ some rs → r ≡ char-of (decode (drop at s))
+    row-decodes r q f = q ∙ rw (split, own, decode-lead a (drop (at + 1) s), f)
 
   pub no-row : (at a : ℕ) → at < length s → a ≡ getD s at 0 → row a ≡ none → None ≡ char-of (decode (drop at s))
   no-row at a h e f = rw (drop-cons s at 0 h, ← e, decode-lead a (drop (suc at) s), f)

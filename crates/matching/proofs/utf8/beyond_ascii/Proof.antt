@@ -1,3 +1,5 @@
+use mathlib.Core.List.{[], _∷_}
+use Rattle.matching.specs.Utf8.{tail}
 use mathlib.Core.Path.{ap, _∙_}
 use Rattle.matching.specs.Contracts.{char-of}
 use Rattle.matching.proofs.Lead.{row-gap, row-two, row-over}
@@ -17,7 +19,7 @@ of-two-requires c κs = search needs
 returns-2 : tie.Need-returns-2
 returns-2 c =
     let o = c .before .before .before .before in
-    c .of-two .ensures ∙ ap char-of (row-decodes (o .args .s .now) (o .args .at) (o .args .a) (o .pre .0) (o .pre .1) _ (row-two _ (c .before .before .if1 .left) (c .before .if2 .taken)))
+    row-decodes (o .args .s .now) (o .args .at) (o .args .a) (o .pre .0) (o .pre .1) (tail ∷ []) (c .of-two .result) (c .of-two .ensures) (row-two _ (c .before .before .if1 .left) (c .before .if2 .taken))
 
 three-requires : tie.Need-three-requires
 three-requires c κs = search needs

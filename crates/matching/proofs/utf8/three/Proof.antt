@@ -1,3 +1,5 @@
+use mathlib.Core.List.{[], _∷_}
+use Rattle.matching.specs.Utf8.{range, tail}
 use mathlib.Core.Path.{ap, _∙_}
 use Rattle.matching.specs.Contracts.{char-of}
 use Rattle.matching.proofs.Lead.{row, row-e0, row-ed, row-three}
@@ -12,7 +14,7 @@ of-three-requires c κs = search needs
 returns : tie.Need-returns
 returns c =
     let o = c .before .before .before in
-    c .of-three .ensures ∙ ap char-of (row-decodes (o .args .s .now) (o .args .at) (o .args .a) (o .pre .0) (o .pre .1) _ (ap row (c .before .if1 .taken) ∙ row-e0))
+    row-decodes (o .args .s .now) (o .args .at) (o .args .a) (o .pre .0) (o .pre .1) (range 0xA0 0xBF ∷ tail ∷ []) (c .of-three .result) (c .of-three .ensures) (ap row (c .before .if1 .taken) ∙ row-e0)
 
 of-three-requires-2 : tie.Need-of-three-requires-2
 of-three-requires-2 c κs = search needs
@@ -20,7 +22,7 @@ of-three-requires-2 c κs = search needs
 returns-2 : tie.Need-returns-2
 returns-2 c =
     let o = c .before .before .before .before in
-    c .of-three2 .ensures ∙ ap char-of (row-decodes (o .args .s .now) (o .args .at) (o .args .a) (o .pre .0) (o .pre .1) _ (ap row (c .before .if2 .taken) ∙ row-ed))
+    row-decodes (o .args .s .now) (o .args .at) (o .args .a) (o .pre .0) (o .pre .1) (range 0x80 0x9F ∷ tail ∷ []) (c .of-three2 .result) (c .of-three2 .ensures) (ap row (c .before .if2 .taken) ∙ row-ed)
 
 of-three-requires-3 : tie.Need-of-three-requires-3
 of-three-requires-3 c κs = search needs
@@ -28,7 +30,7 @@ of-three-requires-3 c κs = search needs
 returns-3 : tie.Need-returns-3
 returns-3 c =
     let o = c .before .before .before .before in
-    c .of-three3 .ensures ∙ ap char-of (row-decodes (o .args .s .now) (o .args .at) (o .args .a) (o .pre .0) (o .pre .1) _ (row-three _ (o .pre .2) (o .pre .3) (c .before .before .if1 .left) (c .before .if2 .left)))
+    row-decodes (o .args .s .now) (o .args .at) (o .args .a) (o .pre .0) (o .pre .1) (tail ∷ tail ∷ []) (c .of-three3 .result) (c .of-three3 .ensures) (row-three _ (o .pre .2) (o .pre .3) (c .before .before .if1 .left) (c .before .if2 .left))
 
 pub three-spec : {M : Type 1} → statement M
 three-spec =
