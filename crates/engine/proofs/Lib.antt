@@ -8,3 +8,6 @@ pub mod SoundLaws
 pub mod TrackerLaws
 pub mod AreaLaws
 pub mod TokenLaws
+pub mod FieldLaws
+pub mod NullableLaws
+pub mod FirstLine

@@ -13,3 +13,4 @@ pub mod Bounded
 pub mod Sound
 pub mod Entry
 pub mod Tokens
+pub mod Lines

@@ -1,0 +1,87 @@
+-- A signed 32-bit field as the machine reads it: what it reads back is the field, and its sign decides how it is read as a natural number.
+use Prim.Native.Nat.{ℕ, _*_, _-_, _<_, _^_}
+use native.Mathlib.Omega.{arith}
+use mathlib.Core.Path.{_≡_, refl, sym, ap, ap₂, _∙_}
+use mathlib.Core.Bool.{Bool, true, false, _&&_, true≢false}
+use mathlib.Core.List.{List}
+use lib.Dec.{T}
+use lib.ListN.{length, getD, List·getD-eq-default}
+use lib.IntN.{ℤ, pos, negsuc, natAbs}
+use lib.Signed.{mag, ltZ, leZ, nonNeg}
+use mir.Syntax.{w32, w64}
+use mir.Val.{SFits, Fits, toZ, ofZ}
+use mir.Facts.{toZ-ofZ}
+use borrow.Author.Tests.{ltb-true, le-leb}
+use Rattle.engine.specs.declared.node.Line.{Line}
+use Rattle.engine.specs.declared.node.Ends.{Ends}
+use Rattle.engine.specs.Grammar.{natural, row, count, node-at}
+use Rattle.engine.specs.Lines.{line-of, ends-of}
+
+pub back : (x : ℤ) → SFits w32 x → toZ w32 (ofZ w32 x) ≡ x
+back x f = toZ-ofZ f
+
+pub read-back : (x : ℤ) → mag x < 2 ^ 31 → toZ w32 (ofZ w32 x) ≡ x
+read-back x h = back x (record { sfits = h })
+
+is-minus : (x : ℤ) → ltZ x (pos 0) ≡ true → 0 ≡ natural x
+is-minus (pos n) h = absurd (omega (arith, ltb-true n 0 h))
+is-minus (negsuc n) h = refl
+
+is-plus : (x : ℤ) → ltZ x (pos 0) ≡ false → natAbs x ≡ natural x
+is-plus (pos n) h = refl
+is-plus (negsuc n) h = absurd (true≢false h)
+
+plus-fits : (x : ℤ) → mag x < 2 ^ 31 → ltZ x (pos 0) ≡ false → T (nonNeg x) × Fits w64 (natAbs x)
+plus-fits (pos n) f h = (tt, omega arith)
+plus-fits (negsuc n) f h = absurd (true≢false h)
+
+pub minus-is : (x : ℤ) → SFits w32 x → ltZ (toZ w32 (ofZ w32 x)) (pos 0) ≡ true → 0 ≡ natural x
+minus-is x f h = is-minus x (rw (back x f) at h)
+
+pub plus-is : (x : ℤ) → SFits w32 x → ltZ (toZ w32 (ofZ w32 x)) (pos 0) ≡ false → natAbs (toZ w32 (ofZ w32 x)) ≡ natural x
+plus-is x f h = rw (back x f) (is-plus x (rw (back x f) at h))
+
+pub cast-plus : (x : ℤ) → SFits w32 x → ltZ (toZ w32 (ofZ w32 x)) (pos 0) ≡ false → T (nonNeg (toZ w32 (ofZ w32 x))) × Fits w64 (natAbs (toZ w32 (ofZ w32 x)))
+cast-plus x f h = rw (back x f) (plus-fits x (f .sfits) (rw (back x f) at h))
+
+is-count : (x : ℤ) → leZ (pos 0) x ≡ count x
+is-count (pos n) = le-leb 0 n (omega arith)
+is-count (negsuc n) = refl
+
+pub count-is : (x : ℤ) → mag x < 2 ^ 31 → leZ (pos 0) (toZ w32 (ofZ w32 x)) ≡ count x
+count-is x h = rw (read-back x h) (is-count x)
+
+-- ── A whole line, read field by field ──
+module _ (ns : List ℤ) (l : ℕ) where
+  abbrev field : ℕ → ℤ
+  field i = getD ns i (pos 0)
+
+  pub line-read : {k a b c : ℕ} → mag (field (l * 4 - 4)) < 2 ^ 31 → mag (field (l * 4 - 3)) < 2 ^ 31 → mag (field (l * 4 - 2)) < 2 ^ 31 → mag (field (l * 4 - 1)) < 2 ^ 31
+      → k ≡ natural (toZ w32 (ofZ w32 (field (l * 4 - 4)))) → a ≡ natural (toZ w32 (ofZ w32 (field (l * 4 - 3)))) → b ≡ natural (toZ w32 (ofZ w32 (field (l * 4 - 2)))) → c ≡ natural (toZ w32 (ofZ w32 (field (l * 4 - 1))))
+      → _≡_ {A = Line} record { kind = k; a = a; b = b; c = c } (line-of (node-at ns l))
+  unfolding node-at
+  line-read f₁ f₂ f₃ f₄ e₁ e₂ e₃ e₄ = λ i.
+      record {
+        kind = (e₁ ∙ ap natural (read-back (field (l * 4 - 4)) f₁)) i;
+        a = (e₂ ∙ ap natural (read-back (field (l * 4 - 3)) f₂)) i;
+        b = (e₃ ∙ ap natural (read-back (field (l * 4 - 2)) f₃)) i;
+        c = (e₄ ∙ ap natural (read-back (field (l * 4 - 1)) f₄)) i;
+      }
+
+  pub ends-read : mag (field (l * 4 - 3)) < 2 ^ 31 → mag (field (l * 4 - 2)) < 2 ^ 31
+      → _≡_ {A = Ends} record { start = toZ w32 (ofZ w32 (field (l * 4 - 3))); end = toZ w32 (ofZ w32 (field (l * 4 - 2))) } (ends-of (node-at ns l))
+  unfolding node-at
+  ends-read f g = λ i. record { start = read-back (field (l * 4 - 3)) f i; end = read-back (field (l * 4 - 2)) g i }
+
+  pub counts-read : {a b c : Bool} → a ≡ count (field (l * 4 - 3)) → b ≡ count (field (l * 4 - 2)) → c ≡ count (field (l * 4 - 1))
+      → (a && (b && c)) ≡ (count (node-at ns l .a) && (count (node-at ns l .b) && count (node-at ns l .c)))
+  unfolding node-at
+  counts-read e₁ e₂ e₃ = ap₂ (λ x y. x && y) e₁ (ap₂ (λ x y. x && y) e₂ e₃)
+
+-- ── A table of twenty rows ──
+module _ (rows : List Bool) (k : ℕ) where
+  pub row-first : k < 1 → getD rows 0 false ≡ row rows false (pos k)
+  row-first h = let e : 0 ≡ k - 1 = omega arith in ap (λ (i : ℕ). getD rows i false) e
+
+  pub row-none : length rows ≡ 20 → 20 < k → false ≡ row rows false (pos k)
+  row-none e h = sym (List·getD-eq-default rows false (omega arith))
