@@ -1,0 +1,2 @@
+// Sheets: grammars as lines of fixed columns.
+mod field;
