@@ -15,7 +15,7 @@ use lib.Seq.{drop-cons, drop-length}
 use mir.Syntax.{w32}
 use mir.Val.{SFits, toZ, ofZ}
 use mir.Facts.{toZ-ofZ}
-use borrow.Author.Tests.{leb-true, lt-ltb, le-ltb, eq-eqb, ne-eqb}
+use borrow.Author.Tests.{ltb-true, leb-true, lt-ltb, le-ltb, eq-eqb, ne-eqb}
 use Rattle.sheet.specs.Field.{behind-spaces, digit, decimal, natural, positive, negative, signed, field}
 use Rattle.sheet.specs.Answers.{digits-of, told, field-of}
 use Rattle.sheet.specs.declared.field.Digits.{Digits}
@@ -186,3 +186,37 @@ module _ (d : Digits) (n : ℕ) (e : d ≡ Value n) where
   minus-bad z h =
       let k : negative (told d) ≡ none = rw e (by-suc n z ∙ rw (le-ltb _ _ h)) in
       rw k
+
+-- "each fits signed 32 bits"
+positive-fits : (b : Bool) (n : ℕ) (v : ℤ) → ltb n 2147483648 ≡ b → _≡_ {A = Option ℤ} (cond b (some (pos n)) none) (some v) → SFits w32 v
+positive-fits true n v h e = let k : v ≡ pos n = cc in rw k (record { sfits = ltb-true n 2147483648 h })
+positive-fits false n v h e = let z : _≡_ {A = ℕ} 0 1 = cc in absurd (omega arith)
+
+negative-fits : (b : Bool) (n : ℕ) (v : ℤ) → ltb n 2147483648 ≡ b → _≡_ {A = Option ℤ} (cond b (some (negsuc n)) none) (some v) → SFits w32 v
+negative-fits true n v h e = let k : v ≡ negsuc n = cc in rw k (record { sfits = ltb-true n 2147483648 h })
+negative-fits false n v h e = let z : _≡_ {A = ℕ} 0 1 = cc in absurd (omega arith)
+
+of-positive : (o : Option ℕ) (v : ℤ) → positive o ≡ some v → SFits w32 v
+of-positive none v e = let z : _≡_ {A = ℕ} 0 1 = cc in absurd (omega arith)
+of-positive (some n) v e = positive-fits (ltb n 2147483648) n v refl e
+
+of-negative : (o : Option ℕ) (v : ℤ) → negative o ≡ some v → SFits w32 v
+of-negative none v e = let z : _≡_ {A = ℕ} 0 1 = cc in absurd (omega arith)
+of-negative (some zero) v e = let z : _≡_ {A = ℕ} 0 1 = cc in absurd (omega arith)
+of-negative (some (suc n)) v e = negative-fits (ltb n 2147483648) n v refl e
+
+of-either : (m : Bool) (s t : List ℕ) (v : ℤ) → cond m (negative (natural s)) (positive (natural t)) ≡ some v → SFits w32 v
+of-either true s t v e = of-negative (natural s) v e
+of-either false s t v e = of-positive (natural t) v e
+
+of-signed : (s : List ℕ) (v : ℤ) → signed s ≡ some v → SFits w32 v
+of-signed [] v e = let z : _≡_ {A = ℕ} 0 1 = cc in absurd (omega arith)
+of-signed (b ∷ s) v e = of-either (eqb b 45) s (b ∷ s) v e
+
+pub field-fits : (s : List ℕ) (v : ℤ) → field s ≡ some v → SFits w32 v
+unfolding field
+field-fits s v e = of-signed (behind-spaces s) v e
+
+-- the machine reads a field's number back as it is
+pub field-back : (s : List ℕ) (v : ℤ) → field s ≡ some v → toZ w32 (ofZ w32 v) ≡ v
+field-back s v e = toZ-ofZ (field-fits s v e)
