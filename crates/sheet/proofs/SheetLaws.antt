@@ -14,11 +14,11 @@ use lib.Seq.{drop-drop, getD-take, getD-drop, take-take, take-add, take-at, drop
 use mir.Syntax.{w32}
 use mir.Val.{SFits, toZ, ofZ}
 use mir.Facts.{toZ-ofZ}
-use borrow.Author.Tests.{leb-true, lt-ltb, le-ltb, le-leb, lt-leb, eq-eqb, ne-eqb}
+use borrow.Author.Tests.{ltb-true, ltb-false, leb-true, eqb-true, eqb-false, lt-ltb, le-ltb, le-leb, lt-leb, eq-eqb, ne-eqb}
 use Rattle.engine.specs.declared.state.Outcome.{Outcome}
 use Rattle.sheet.specs.Area.{over}
 use Rattle.sheet.specs.Field.{and-then, field}
-use Rattle.sheet.specs.Sheet.{cut, count, lines, ended, lined, Node, columns, line, first-malformed, four, numbers, Reading, refused, read, reading, outcome, SheetRead}
+use Rattle.sheet.specs.Sheet.{cut, count, lines, ended, lined, Node, columns, line, first-malformed, four, numbers, Reading, refused, read, reading, outcome, area-after, SheetRead}
 use Rattle.sheet.specs.Answers.{field-of, line-of}
 use Rattle.sheet.proofs.FieldLaws.{field-back}
 use Rattle.sheet.specs.declared.field.Field.{Field}
@@ -234,24 +234,60 @@ module _ (s : List ℕ) where
       third false b c d e = cc
 
 -- the three tests and their answers, in order
-module _ (s : List ℕ) (a : List ℤ) (r : Outcome) where
-  pub read-1 : lined s ≡ false → r ≡ outcome (refused 1 0) → SheetRead s a a r
+module _ (s : List ℕ) (room : ℕ) where
+  pub test-1 : lined s ≡ false → reading s room ≡ refused 1 0
   unfolding reading
-  read-1 t e = record { answer = rw (e, t); area = rw t }
+  test-1 t = rw t
 
   module _ (t : lined s ≡ true) where
-    pub read-2 : (p : ℕ) → p ≡ first-malformed 1 (lines s) → (p ≡ 0 → ⊥) → r ≡ outcome (refused 2 p) → SheetRead s a a r
+    pub test-2 : (p : ℕ) → p ≡ first-malformed 1 (lines s) → (p ≡ 0 → ⊥) → reading s room ≡ refused 2 p
     unfolding reading
-    read-2 p f z e = record { answer = rw (e, t, ← f, ne-eqb _ _ z); area = rw (t, ← f, ne-eqb _ _ z) }
+    test-2 p f z = rw (t, ← f, ne-eqb _ _ z)
 
     module _ (z : first-malformed 1 (lines s) ≡ 0) where
-      pub read-3 : length a < count s * 4 → r ≡ outcome (refused 3 0) → SheetRead s a a r
+      pub test-3 : room < count s * 4 → reading s room ≡ refused 3 0
       unfolding reading
-      read-3 h e = record { answer = rw (e, t, eq-eqb _ _ z, lt-ltb _ _ h); area = rw (t, eq-eqb _ _ z, lt-ltb _ _ h) }
+      test-3 h = rw (t, eq-eqb _ _ z, lt-ltb _ _ h)
 
-      pub read-0 : (b : List ℤ) → count s * 4 ≤ length a → b ≡ over (numbers (lines s)) a → r ≡ outcome (read (count s) (numbers (lines s))) → SheetRead s a b r
+      pub test-0 : count s * 4 ≤ room → reading s room ≡ read (count s) (numbers (lines s))
       unfolding reading
-      read-0 b h o e = record { answer = rw (e, t, eq-eqb _ _ z, le-ltb _ _ h); area = rw (o, t, eq-eqb _ _ z, le-ltb _ _ h) }
+      test-0 h = rw (t, eq-eqb _ _ z, le-ltb _ _ h)
+
+-- a sheet that passed the three tests
+pub record Passed (s : List ℕ) (room : ℕ) : Type 0 where
+  pub good : first-malformed 1 (lines s) ≡ 0
+  pub fits : count s * 4 ≤ room
+  pub all : reading s room ≡ read (count s) (numbers (lines s))
+
+pub passed : (s : List ℕ) (room : ℕ) (r : Outcome) → r ≡ outcome (reading s room) → r .number ≡ 0 → Passed s room
+passed s room r o e = by-lined (lined s) refl
+  where
+    answer : (x : Reading) → reading s room ≡ x → (outcome x) .number ≡ 0
+    answer x p = sym (ap (λ y. (outcome y) .number) p) ∙ sym (ap (λ y. y .number) o) ∙ e
+
+    by-room : (b : Bool) → lined s ≡ true → first-malformed 1 (lines s) ≡ 0 → ltb room (count s * 4) ≡ b → Passed s room
+    by-room true t z h = absurd (omega (arith, answer _ (test-3 s room t z (ltb-true _ _ h))))
+    by-room false t z h = record { good = z; fits = ltb-false _ _ h; all = test-0 s room t z (ltb-false _ _ h) }
+
+    by-good : (b : Bool) → lined s ≡ true → eqb (first-malformed 1 (lines s)) 0 ≡ b → Passed s room
+    by-good true t h = by-room (ltb room (count s * 4)) t (eqb-true _ _ h) refl
+    by-good false t h = absurd (omega (arith, answer _ (test-2 s room t _ refl (eqb-false _ _ h))))
+
+    by-lined : (b : Bool) → lined s ≡ b → Passed s room
+    by-lined true t = by-good (eqb (first-malformed 1 (lines s)) 0) t refl
+    by-lined false t = absurd (omega (arith, answer _ (test-1 s room t)))
+
+-- what becomes of the area
+module _ (s : List ℕ) (a : List ℤ) (r : Outcome) (o : r ≡ outcome (reading s (length a))) where
+  pub sheet-read : (b : List ℤ) → Passed s (length a) → b ≡ over (numbers (lines s)) a → SheetRead s a b r
+  sheet-read b p e = record { answer = o; area = rw (p .all) e }
+
+  pub sheet-refused : (r .number ≡ 0 → ⊥) → SheetRead s a a r
+  sheet-refused z = record { answer = o; area = left (reading s (length a)) (λ e. z (ap (λ y. y .number) o ∙ e)) }
+    where
+      left : (x : Reading) → ((outcome x) .number ≡ 0 → ⊥) → a ≡ area-after x a
+      left (refused n p) h = refl
+      left (read n ns) h = absurd (h refl)
 
 -- how far the nodes are written: those of the first i lines, and none of the lines from i on is malformed
 pub record Written (s : List ℕ) (n i : ℕ) (before area : List ℤ) : Type 0 where

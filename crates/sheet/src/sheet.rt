@@ -9,7 +9,7 @@ ghost use lib.ListN.{length, take, drop};
 ghost use lib.Seq.{sets};
 ghost use Rattle.sheet.specs.Area.{over};
 ghost use Rattle.sheet.specs.Field.{field};
-ghost use Rattle.sheet.specs.Sheet.{cut, ended, lined, line, first-malformed, numbers, refused, outcome, SheetRead};
+ghost use Rattle.sheet.specs.Sheet.{cut, ended, lined, line, first-malformed, numbers, refused, reading, outcome, SheetRead};
 ghost use Rattle.sheet.specs.Answers.{field-of, line-of};
 
 pub(crate) enum Line {
@@ -109,6 +109,7 @@ fn put_nodes(sheet: &[u8], n: usize, nodes: &mut [i32])
 {
     let mut i = 0;
     while i < n {
+        // Each line was read before, so this one is no bad one.
         let Line::Fields(kind, a, b, c) = read_line(sheet, i * 41) else {
             return;
         };
@@ -127,9 +128,9 @@ fn refusal(number: u32, place: u32) -> Outcome
     }
 }
 
-// Reads a whole sheet. Every test comes before the first node is written.
-pub fn read_sheet(sheet: &[u8], nodes: &mut [i32]) -> Outcome
-    ensures { λ r. ⌜ SheetRead (now (sheet .entry)) (now (nodes .entry)) (now (nodes .exit)) r ⌝ }
+// The three tests, in order, over the whole sheet, for a node area of `room` numbers. Nothing is written here.
+fn tested(sheet: &[u8], room: usize) -> Outcome
+    ensures { λ r. ⌜ r ≡ outcome (reading (now (sheet .entry)) room) ⌝ }
 {
     if !is_lined(sheet) {
         return refusal(1, 0);
@@ -139,13 +140,24 @@ pub fn read_sheet(sheet: &[u8], nodes: &mut [i32]) -> Outcome
     if bad != 0 {
         return refusal(2, bad);
     }
-    if nodes.len() < n * 4 {
+    if room < n * 4 {
         return refusal(3, 0);
     }
-    put_nodes(sheet, n, nodes);
     Outcome {
         number: 0,
         place: 0,
         count: n as u32,
     }
+}
+
+// Reads a sheet into the node area. A refusal leaves the area as it was.
+pub fn read_sheet(sheet: &[u8], nodes: &mut [i32]) -> Outcome
+    ensures { λ r. ⌜ SheetRead (now (sheet .entry)) (now (nodes .entry)) (now (nodes .exit)) r ⌝ }
+{
+    let o = tested(sheet, nodes.len());
+    if o.number == 0 {
+        let n = sheet.len() / 41;
+        put_nodes(sheet, n, nodes);
+    }
+    o
 }
