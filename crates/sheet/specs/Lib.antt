@@ -1,0 +1,4 @@
+pub mod Field
+pub mod Area
+pub mod Sheet
+pub mod Answers

@@ -1,0 +1,3 @@
+// Sheets: grammars as lines of fixed columns.
+mod field;
+pub mod sheet;

@@ -1,0 +1,243 @@
+// Runs read_sheet on good and broken sheets, and writes a line for each: its name, number, place and count, and the node area.
+use engine::state::Outcome;
+use sheet::sheet::read_sheet;
+
+const OUT: i32 = 1;
+
+fn put_number(n: u64) {
+    io::write_all(OUT, b" ");
+    io::print_decimal(OUT, n);
+}
+
+fn put_signed(x: i32) {
+    if x < 0 {
+        // -x does not fit 32 bits at the least number
+        let y = -(x as i64);
+        io::write_all(OUT, b" -");
+        io::print_decimal(OUT, y as u64);
+    } else {
+        put_number(x as u64);
+    }
+}
+
+fn put_outcome(name: &[u8], o: Outcome) {
+    io::write_all(OUT, name);
+    io::write_all(OUT, b":");
+    put_number(o.number as u64);
+    put_number(o.place as u64);
+    put_number(o.count as u64);
+}
+
+fn end_line() {
+    io::write_all(OUT, b"\n");
+}
+
+// The numbers of the node area from one place to before another.
+fn put_some(nodes: &[i32], from: usize, to: usize) {
+    let mut i = from;
+    while i < to {
+        if i < nodes.len() {
+            put_signed(nodes[i]);
+        }
+        i += 1;
+    }
+}
+
+fn put_area(nodes: &[i32]) {
+    put_some(nodes, 0, nodes.len());
+    end_line();
+}
+
+// A sheet for a node area of five numbers: one line, and one number behind.
+fn one(name: &[u8], bytes: &[u8]) {
+    let mut nodes = [5i32; 5];
+    put_outcome(name, read_sheet(bytes, &mut nodes));
+    put_area(&nodes);
+}
+
+// The bytes of a line, over and over.
+fn fill(area: &mut [u8], line: &[u8]) {
+    if line.len() == 0 {
+        return;
+    }
+    let mut i = 0;
+    while i < area.len() {
+        area[i] = line[i % line.len()];
+        i += 1;
+    }
+}
+
+// Document 01's example, for a node area with two numbers behind.
+fn example() {
+    let mut nodes = [5i32; 18];
+    let bytes =
+        b"   1           0           1           0\n   8           7           1           0\n  19           3           0           0\n   6           2           3           0\n";
+    put_outcome(b"example", read_sheet(bytes, &mut nodes));
+    put_area(&nodes);
+}
+
+fn one_short() {
+    let mut nodes = [5i32; 3];
+    put_outcome(
+        b"one number short",
+        read_sheet(b"   1           0           1           0\n", &mut nodes),
+    );
+    put_area(&nodes);
+}
+
+// 41 lines of 40 bytes: a length that 41 divides.
+fn forty() {
+    let mut bytes = [0u8; 1640];
+    fill(&mut bytes, b"  1           0           1           0\n");
+    one(b"41 lines of 40 bytes", &bytes);
+}
+
+// As many lines as are taken: their first and last nodes, and what lies behind.
+fn most() {
+    let mut bytes = [0u8; 167936];
+    fill(&mut bytes, b"  -6           2           3           0\n");
+    let mut nodes = [5i32; 16385];
+    put_outcome(b"4,096 lines", read_sheet(&bytes, &mut nodes));
+    put_some(&nodes, 0, 4);
+    put_some(&nodes, 16380, 16385);
+    end_line();
+}
+
+fn one_too_many() {
+    let mut bytes = [0u8; 167977];
+    fill(&mut bytes, b"  -6           2           3           0\n");
+    let mut nodes = [5i32; 16388];
+    put_outcome(b"4,097 lines", read_sheet(&bytes, &mut nodes));
+    put_some(&nodes, 0, 4);
+    put_some(&nodes, 16384, 16388);
+    end_line();
+}
+
+fn broken() {
+    one(b"empty", b"");
+    one(
+        b"40 bytes a line",
+        b"  1           0           1           0\n  1           0           1           0\n",
+    );
+    one(
+        b"42 bytes a line",
+        b"    1           0           1           0\n    1           0           1           0\n",
+    );
+    one(
+        b"no last newline",
+        b"   1           0           1           0\n   1           0           1           0",
+    );
+    one(
+        b"space for the last newline",
+        b"   1           0           1           0\n   1           0           1           0 ",
+    );
+    one(
+        b"space for the first newline",
+        b"   1           0           1           0    1           0           1           0\n",
+    );
+}
+
+fn digits() {
+    one(b"tab", b"   1          \t0           1           0\n");
+    one(b"plus sign", b"   1          +7           1           0\n");
+    one(
+        b"leading zero",
+        b"   1          07           1           0\n",
+    );
+    one(b"minus zero", b"   1          -0           1           0\n");
+    one(
+        b"minus leading zero",
+        b"   1         -07           1           0\n",
+    );
+    one(b"two minus", b"   1         --7           1           0\n");
+    one(
+        b"minus behind",
+        b"   1          7-           1           0\n",
+    );
+}
+
+fn minus_and_spaces() {
+    one(
+        b"minus alone",
+        b"   1           -           1           0\n",
+    );
+    one(
+        b"space behind minus",
+        b"   1         - 7           1           0\n",
+    );
+    one(
+        b"space behind digits",
+        b"   1          7            1           0\n",
+    );
+    one(
+        b"space between digits",
+        b"   1         7 7           1           0\n",
+    );
+    one(
+        b"blank field",
+        b"   1                       1           0\n",
+    );
+    one(
+        b"newline in a field",
+        b"   1          \n0           1           0\n",
+    );
+    one(b"letter", b"   1           0           1           x\n");
+}
+
+fn ranges() {
+    one(b"zero", b"   0           0           0           0\n");
+    one(
+        b"four columns",
+        b"9999           0           0           0\n",
+    );
+    one(
+        b"four columns, minus",
+        b"-999           0           0           0\n",
+    );
+    one(b"largest", b"   1  2147483647           0           0\n");
+    one(
+        b"one over the largest",
+        b"   1  2147483648           0           0\n",
+    );
+    one(b"least", b"   1           0 -2147483648           0\n");
+    one(
+        b"one under the least",
+        b"   1           0 -2147483649           0\n",
+    );
+    one(
+        b"twelve digits",
+        b"   1           0           0999999999999\n",
+    );
+}
+
+fn order() {
+    one(
+        b"second line of three",
+        b"   1           0           1           0\n   1          +1           0           0\n   x           0           0           0\n",
+    );
+    one(
+        b"broken behind malformed",
+        b"   1          +1           0           0\n   1           0           1           0 ",
+    );
+    one(
+        b"malformed and no room",
+        b"   1           0           1           0\n   1          +1           0           0\n",
+    );
+    one(
+        b"no room for the second",
+        b"   1           0           1           0\n   1           0           1           0\n",
+    );
+}
+
+fn main() {
+    example();
+    broken();
+    digits();
+    minus_and_spaces();
+    ranges();
+    order();
+    one_short();
+    forty();
+    most();
+    one_too_many();
+}
