@@ -1,5 +1,6 @@
 //! Cases, where they come from, and what is compared on each.
 
+pub mod answers;
 pub mod boundary;
 pub mod case;
 pub mod contender;

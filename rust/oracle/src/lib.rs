@@ -135,10 +135,8 @@ fn lay_out(reading: &Reading, tokens: &mut [u32], report: &mut [u32]) -> Outcome
 }
 
 fn write(area: &mut [u32], numbers: impl Iterator<Item = u32>) {
-    let mut written = 0;
-    for number in numbers {
-        area[written] = number;
-        written += 1;
+    for (at, number) in numbers.enumerate() {
+        area[at] = number;
     }
 }
 
