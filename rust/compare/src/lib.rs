@@ -1,0 +1,14 @@
+//! Cases, where they come from, and what is compared on each.
+
+pub mod answers;
+pub mod boundary;
+pub mod case;
+pub mod contender;
+pub mod damage;
+pub mod exhaustive;
+pub mod judge;
+pub mod minimise;
+pub mod random;
+pub mod rng;
+pub mod sample;
+pub mod stack;
