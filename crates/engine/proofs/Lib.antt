@@ -11,3 +11,10 @@ pub mod TokenLaws
 pub mod FieldLaws
 pub mod NullableLaws
 pub mod FirstLine
+pub mod Trees
+pub mod Matchers
+pub mod Invariant
+pub mod Simulation
+pub mod Unbounded
+pub mod Agree
+pub mod Loop
