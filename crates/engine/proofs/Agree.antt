@@ -101,15 +101,12 @@ ascending-is [] = refl
 ascending-is (x ∷ l) = dedup-sorted x (sort l) ∙ ap (insert x) (ascending-is l)
 
 -- ── The first state ──
-initial-is : (g : Setting) → Pest.new (g .call-limit) ≡ pest-of g top [] initial
-initial-is g = go (g .call-limit) refl
-  where
-    go : (l : ℕ) → g .call-limit ≡ l → Pest.new l ≡ pest-of g top [] initial
-    go zero e = rw e
-    go (suc l) e = rw (e, lt-ltb 0 (suc l) (omega arith))
+initial-is : (limit : ℕ) → Pest.new limit ≡ pest-of top [] (initial limit)
+initial-is zero = refl
+initial-is (suc l) = rw (lt-ltb 0 (suc l) (omega arith))
 
-pub initial-fit : (g : Setting) → Utf8 (g .text) → Fit g (pest-of g top [] initial)
-initial-fit g u = record {
+pub initial-fit : (g : Setting) (limit : ℕ) → Utf8 (g .text) → Fit g (pest-of top [] (initial limit))
+initial-fit g limit u = record {
   edge = record { inside = omega arith; whole = u };
   entries = tt;
   saved = tt;
@@ -127,8 +124,8 @@ pest-answer (Err m) =
     elim (m .call-tracker .limit-reached) [ some c ↦ of-limit c (m .attempt-pos) | none ↦ of-failure (m .attempt-pos) (ascending (m .pos-attempts)) (ascending (m .neg-attempts)) ]
 pest-answer (Stop c) = of-cause c
 
-answers : (g : Setting) {l : Lookahead} {a : Atomicity} {f : Forest} (r : Ending State) (m : Ending ParserState) → Sim g top [] l a f r m → answer r ≡ pest-answer m
-answers g r m (sim-ok s p i k) = go (s .tracker .cause)
+answers : {l : Lookahead} {a : Atomicity} {f : Forest} (r : Ending State) (m : Ending ParserState) → Sim top [] l a f r m → answer r ≡ pest-answer m
+answers r m (sim-ok s p i k) = go (s .tracker .cause)
   where
     forest : tokens (s .siblings) ≡ map five (queue-from (s .outer) (s .siblings))
     forest = rw (i .base) (sym (five-queue 0 (s .siblings)))
@@ -139,16 +136,16 @@ answers g r m (sim-ok s p i k) = go (s .tracker .cause)
     go : (c : Option LimitKind) → given (tokens (s .siblings)) c ≡ given (map five (queue-from (s .outer) (s .siblings))) c
     go (some x) = refl
     go none = ap of-tokens forest
-answers g r m (sim-err s p i k) = refl
-answers g r m (sim-stop c) = refl
+answers r m (sim-err s p i k) = refl
+answers r m (sim-stop c) = refl
 
-module _ (g : Setting) (set : ℕ → Bool) (w : Tested g set) (u : Utf8 (g .text)) (depth : ℕ) (e : Exp) (y : Literals e) (z : Steady set e) where
+module _ (g : Setting) (set : ℕ → Bool) (w : Tested g set) (u : Utf8 (g .text)) (depth limit : ℕ) (e : Exp) (y : Literals e) (z : Steady set e) where
   -- A run and pest with the stops end alike.
-  pub run-sim : Sim g top [] (initial .lookahead) (initial .atomicity) (initial .siblings) (Reading.eval g depth e initial) (Pest.eval g true depth e (Pest.new (g .call-limit)))
-  run-sim = rw (initial-is g) (eval-sim g set w depth e y z top [] [] initial (record { base = refl; inv = bottom }) (initial-fit g u))
+  pub run-sim : Sim top [] (initial limit .lookahead) (initial limit .atomicity) (initial limit .siblings) (Reading.eval g depth e (initial limit)) (Pest.eval g true depth e (Pest.new limit))
+  run-sim = rw (initial-is limit) (eval-sim g set w depth e y z top [] [] (initial limit) (record { base = refl; inv = bottom }) (initial-fit g limit u))
 
-  pub alike : answer (Reading.eval g depth e initial) ≡ pest-answer (Pest.eval g true depth e (Pest.new (g .call-limit)))
-  alike = answers g _ _ run-sim
+  pub alike : answer (Reading.eval g depth e (initial limit)) ≡ pest-answer (Pest.eval g true depth e (Pest.new limit))
+  alike = answers _ _ run-sim
 
 -- ── `state` ──
 -- Number, place, count, tokens and report that stand for what `state` gives. A panic is no answer of a run.
@@ -185,12 +182,12 @@ result-is x (ends-err m) = go (m .call-tracker .limit-reached)
     go (some k) = refl
     go none = rw (ascending-is (m .pos-attempts), ascending-is (m .neg-attempts))
 
-module _ (g : Setting) (set : ℕ → Bool) (w : Tested g set) (u : Utf8 (g .text)) (depth : ℕ) (e : Exp) (y : Literals e) (z : Steady set e) where
+module _ (g : Setting) (set : ℕ → Bool) (w : Tested g set) (u : Utf8 (g .text)) (depth limit : ℕ) (e : Exp) (y : Literals e) (z : Steady set e) where
   -- Demand 2, the first half: a run that does not stop answers what `state` gives.
-  pub agree-at : Runs (Reading.eval g depth e initial) → answer (Reading.eval g depth e initial) ≡ answer-to (state g depth e)
-  agree-at h = go _ _ _ (run-sim g set w u depth e y z) h (eval-frees g depth e (Pest.new (g .call-limit)))
+  pub agree-at : Runs (Reading.eval g depth e (initial limit)) → answer (Reading.eval g depth e (initial limit)) ≡ answer-to (state g depth limit e)
+  agree-at h = go _ _ _ (run-sim g set w u depth limit e y z) h (eval-frees g depth e (Pest.new limit))
     where
-      go : (r : Ending State) (m n : Ending ParserState) → Sim g top [] (initial .lookahead) (initial .atomicity) (initial .siblings) r m → Runs r → Freed m n → answer r ≡ answer-to (Pest.result-of n)
-      go r m n (sim-ok s p i k) q (freed x) = answers g _ _ (sim-ok s p i k) ∙ result-is _ (ends-ok (pest-of g top p s))
-      go r m n (sim-err s p i k) q (freed x) = answers g _ _ (sim-err s p i k) ∙ result-is _ (ends-err (pest-of g top p s))
+      go : (r : Ending State) (m n : Ending ParserState) → Sim top [] (initial limit .lookahead) (initial limit .atomicity) (initial limit .siblings) r m → Runs r → Freed m n → answer r ≡ answer-to (Pest.result-of n)
+      go r m n (sim-ok s p i k) q (freed x) = answers _ _ (sim-ok s p i k) ∙ result-is _ (ends-ok (pest-of top p s))
+      go r m n (sim-err s p i k) q (freed x) = answers _ _ (sim-err s p i k) ∙ result-is _ (ends-err (pest-of top p s))
       go r m n (sim-stop c) q f = absurd (elim q [ ])

@@ -69,7 +69,7 @@ module _ (g : Setting) where
     pub saves : List Stk
     pub popped : Stk
     pub good : Good open-rules saves popped s
-    pub fit : Fit g (pest-of g open-rules popped s)
+    pub fit : Fit g (pest-of open-rules popped s)
 
   reading-loop : (r : State → Ending State) (f : ParserState → Ending ParserState) → Preserves g r f → Keeping g false f → (n : ℕ) (s : State) → Stands s → length (g .text) - s .position < n
       → Loops Reading.limited r s (Reading.rounds n r s)
@@ -78,9 +78,9 @@ module _ (g : Setting) where
       Stands (λ s. left-of (s .position)) nearer
     where
       nearer : (s t : State) → Stands s → r s ≡ Ok t → Stands t × (left-of (t .position) < left-of (s .position))
-      nearer s t x e = go (r s) (f (pest-of g (x .open-rules) (x .popped) s)) e (h (x .open-rules) (x .saves) (x .popped) s (x .good) (x .fit)) (k (pest-of g (x .open-rules) (x .popped) s) (x .fit))
+      nearer s t x e = go (r s) (f (pest-of (x .open-rules) (x .popped) s)) e (h (x .open-rules) (x .saves) (x .popped) s (x .good) (x .fit)) (k (pest-of (x .open-rules) (x .popped) s) (x .fit))
         where
-          go : (y : Ending State) (m : Ending ParserState) → y ≡ Ok t → Sim g (x .open-rules) (x .saves) (s .lookahead) (s .atomicity) (s .siblings) y m → KeepsFrom g false (pest-of g (x .open-rules) (x .popped) s) m
+          go : (y : Ending State) (m : Ending ParserState) → y ≡ Ok t → Sim (x .open-rules) (x .saves) (s .lookahead) (s .atomicity) (s .siblings) y m → KeepsFrom g false (pest-of (x .open-rules) (x .popped) s) m
               → Stands t × (left-of (t .position) < left-of (s .position))
           go y m q (sim-ok u p j l) (keeps-ok n w i) =
               let z : u ≡ t = cc in

@@ -77,10 +77,10 @@ abbrev pub capacity : List ℕ → ℕ
 capacity area = min (length area / 5) 65535
 
 abbrev pub setting : Input → Setting
-setting i = record { text = i .text; rule-at = rule-at (i .nodes) (i .literals); capacity = capacity (i .tokens); call-limit = i .call-limit }
+setting i = record { text = i .text; rule-at = rule-at (i .nodes) (i .literals); capacity = capacity (i .tokens) }
 
 unfoldable pub reading : Input → Ending State
-reading i = eval (setting i) (i .depth-limit) (root (i .nodes) (i .literals)) initial
+reading i = eval (setting i) (i .depth-limit) (root (i .nodes) (i .literals)) (initial (i .call-limit))
 
 -- ── The answer to an ending ──
 -- Number, place, count, the tokens, and what stands in the report before its zeros.

@@ -547,5 +547,5 @@ result-of (Err m) = error-of (m .call-tracker .limit-reached) m
 result-of (Stop c) = Panic
 
 -- `state`, of pest itself: nothing is bounded.
-abbrev pub state : Setting → (depth-limit : ℕ) → Exp → Result
-state g depth e = result-of (eval g false depth e (new (g .call-limit)))
+abbrev pub state : Setting → (depth-limit call-limit : ℕ) → Exp → Result
+state g depth limit e = result-of (eval g false depth e (new limit))

@@ -19,12 +19,11 @@ use Rattle.engine.specs.Ending.{if_then_else_, Ending, Ok, Err, Stop, on
 use Rattle.engine.specs.Grammar.{Exp, match-string, match-insensitive, match-range, skip, end-of-input, and-then, or-else, rule, sequence, repeat, optional, lookahead, atomic, stack-push, stack-pop, stack-match-peek-slice, stack-match-pop, restore-on-err, tag-node, call, RuleLine}
 use Rattle.engine.specs.Forest.{Forest, empty, add, count, size, cut, tag-last}
 
--- What a run is given: the text, the rules by their lines, how many tokens there is room for, and the call limit.
+-- What stays the same through a run: the text, the rules by their lines, and how many tokens there is room for.
 pub record Setting : Type 0 where
   pub text : List ℕ
   pub rule-at : ℕ → RuleLine
   pub capacity : ℕ
-  pub call-limit : ℕ
 
 -- "Capacity: 128 entries, total debt 1,024"; "attempt 257 in a list" stops
 abbrev pub most-entries : ℕ
@@ -37,8 +36,9 @@ abbrev pub most-attempts : ℕ
 most-attempts = 256
 
 -- ── State ──
--- The counted calls, and "A cause once set".
+-- The call limit, the counted calls, and "A cause once set".
 pub record Tracker : Type 0 where
+  pub limit : ℕ
   pub counted : ℕ
   pub cause : Option LimitKind
 
@@ -62,8 +62,8 @@ pub record State : Type 0 where
   pub attempts : Attempts
 
 -- "at 0, furthest 0, stack, siblings and both lists empty, nothing counted, lookahead None, atomicity NonAtomic"
-abbrev pub initial : State
-initial = record {
+abbrev pub initial : (call-limit : ℕ) → State
+initial limit = record {
   position = 0;
   stack = [];
   checkpoints = [];
@@ -71,7 +71,7 @@ initial = record {
   outer = 0;
   lookahead = None;
   atomicity = NonAtomic;
-  tracker = record { counted = 0; cause = none };
+  tracker = record { limit = limit; counted = 0; cause = none };
   attempts = record { furthest = 0; positive = []; negative = [] };
 }
 
@@ -150,16 +150,16 @@ over (suc l) n = leb (suc l) n
 
 -- "A cause once set refuses every later entry"; the call limit is "tested before the stack limit". `room`: fewer calls are open
 -- than the depth limit.
-abbrev pub enter : (limit : ℕ) → (room counts : Bool) → Tracker → Entry
-enter limit room counts t =
+abbrev pub enter : (room counts : Bool) → Tracker → Entry
+enter room counts t =
     if is-set (t .cause) then refused t
-    else if counts && over limit (t .counted) then refused (record { counted = t .counted; cause = some Call })
-    else if room then entered (record { counted = if counts then suc (t .counted) else t .counted; cause = t .cause })
-    else refused (record { counted = t .counted; cause = some Stack })
+    else if counts && over (t .limit) (t .counted) then refused (record { limit = t .limit; counted = t .counted; cause = some Call })
+    else if room then entered (record { limit = t .limit; counted = if counts then suc (t .counted) else t .counted; cause = t .cause })
+    else refused (record { limit = t .limit; counted = t .counted; cause = some Stack })
 
 -- "A refused entry answers Err before all else in its combinator"
-abbrev pub entering : (limit : ℕ) → (room counts : Bool) → State → (State → Ending State) → Ending State
-entering limit room counts s k = elim (enter limit room counts (s .tracker)) [ refused t ↦ Err (with-tracker t s) | entered t ↦ k (with-tracker t s) ]
+abbrev pub entering : (room counts : Bool) → State → (State → Ending State) → Ending State
+entering room counts s k = elim (enter room counts (s .tracker)) [ refused t ↦ Err (with-tracker t s) | entered t ↦ k (with-tracker t s) ]
 
 -- ── Attempts ──
 pub record Note : Type 0 where
@@ -382,10 +382,10 @@ module _ (g : Setting) where
   module _ (room : Bool) (deeper : Exp → State → Ending State) where
     -- "Kinds 8 to 14 enter counted, 18 uncounted, others not at all."
     abbrev pub counted : State → (State → Ending State) → Ending State
-    counted s k = entering (g .call-limit) room true s k
+    counted s k = entering room true s k
 
     abbrev pub uncounted : State → (State → Ending State) → Ending State
-    uncounted s k = entering (g .call-limit) room false s k
+    uncounted s k = entering room false s k
 
     abbrev pub at-rule : RuleLine → State → Ending State
     at-rule r s = counted s (λ t. rule-body g (r .line) (r .rule) (deeper (r .body)) t)
@@ -415,7 +415,7 @@ module _ (g : Setting) where
 
   -- Where no call may open, every entry is refused, and what stands here is not reached.
   abbrev pub no-deeper : Exp → State → Ending State
-  no-deeper e s = Err (with-tracker (record { counted = s .tracker .counted; cause = some Stack }) s)
+  no-deeper e s = Err (with-tracker (record { limit = s .tracker .limit; counted = s .tracker .counted; cause = some Stack }) s)
 
   -- Evaluation where `room` more calls may be open at once.
   abbrev pub eval : (room : ℕ) → Exp → State → Ending State
