@@ -27,7 +27,8 @@ use Rattle.engine.specs.Sound.{Sound, fits-none}
 use Rattle.engine.proofs.Trees.{Literals, still, Steady}
 use Rattle.engine.proofs.StackLaws.{bottom}
 use Rattle.engine.proofs.QueueLaws.{queue-from, top}
-use Rattle.engine.proofs.Invariant.{Fit, Tested}
+use Rattle.engine.specs.Fit.{Fit}
+use Rattle.engine.proofs.Invariant.{Tested}
 use Rattle.engine.proofs.Simulation.{Sim, sim-ok, sim-err, sim-stop, eval-sim, pest-of, Good}
 use Rattle.engine.proofs.Unbounded.{Freed, freed, freed-stop, eval-frees}
 

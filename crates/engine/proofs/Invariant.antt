@@ -13,11 +13,11 @@ use lib.ListN.{length, take, drop, set, getD, length-append, length-take, length
 use lib.Seq.{drop-drop}
 use lib.Dec.{eqb, ltb, leb}
 use borrow.Author.Tests.{eqb-true, eqb-false, leb-true, leb-false, ltb-true, ltb-false}
-use Rattle.matching.specs.Utf8.{Utf8, within}
+use Rattle.matching.specs.Utf8.{Utf8, Edge, within}
 use Rattle.matching.specs.Position as Position
 use Rattle.matching.specs.Position.{same-folded}
 use Rattle.matching.proofs.Forward.{Forward, Found, not-found, found, string-forward, char-forward, skip-forward}
-use Rattle.matching.proofs.Edges.{Edge, Lands, lands-not, lands, string-lands, char-lands, skip-lands, span-whole, eqb-keeps, folded-keeps}
+use Rattle.matching.proofs.Edges.{Lands, lands-not, lands, string-lands, char-lands, skip-lands, span-whole, eqb-keeps, folded-keeps}
 use Rattle.engine.specs.declared.parser_state.Lookahead.{Lookahead}
 use Rattle.engine.specs.declared.parser_state.Atomicity.{Atomicity}
 use Rattle.engine.specs.declared.parser_state.Atomicity.the-variants.{Atomic, CompoundAtomic, NonAtomic}
@@ -29,29 +29,12 @@ use Rattle.engine.specs.Grammar.{Exp, RuleLine}
 use Rattle.engine.specs.Reading.{Setting, most-entries, most-debt, most-attempts, debt}
 use Rattle.engine.specs.Pest as Pest
 use Rattle.engine.specs.Pest.{ParserState, Stack, QueueableToken, Entered, level, eval, no-deeper}
-use Rattle.engine.specs.Sound.{Sound}
+use Rattle.engine.specs.Fit.{Entries, Fit}
 use Rattle.engine.proofs.SoundLaws.{sound-push, sound-pop, sound-snapshot, sound-clear, sound-restore, lengths-pop, lengths-clear, lengths-restore}
 use Rattle.engine.proofs.Matchers.{string-same, folded-same, range-same, skip-same}
 use Rattle.engine.proofs.Trees.{Literals, still, Steady}
 
--- ── What holds of every state of a run ──
-abbrev pub Entries : (text : List ℕ) → List Span → Type 0
-Entries text [] = Unit {0}
-Entries text (v ∷ vs) = Utf8 (Pest.as-str text v) × Entries text vs
-
-pub record Sane (g : Setting) (p : ℕ) (v : Stack) (held furthest : ℕ) (ps ns : List ℕ) : Type 0 where
-  pub edge : Edge (g .text) p
-  pub entries : Entries (g .text) (v .cache)
-  pub saved : Entries (g .text) (v .popped)
-  pub sound : Sound v
-  pub room : held ≤ g .capacity
-  pub inside : furthest ≤ length (g .text)
-  pub positives : length ps ≤ most-attempts
-  pub negatives : length ns ≤ most-attempts
-
-abbrev pub Fit : Setting → ParserState → Type 0
-Fit g m = Sane g (m .position) (m .stack) (length (m .queue)) (m .attempt-pos) (m .pos-attempts) (m .neg-attempts)
-
+-- ── What an evaluation keeps ──
 -- What an evaluation that began at p, with the given lookahead, atomicity, open checkpoints and tokens, leaves.
 pub record After (g : Setting) (p : ℕ) (l : Lookahead) (a : Atomicity) (marks held : ℕ) (n : ParserState) : Type 0 where
   pub fit : Fit g n

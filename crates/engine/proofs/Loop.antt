@@ -16,7 +16,8 @@ use Rattle.engine.specs.Pest.{ParserState}
 use Rattle.engine.proofs.Trees.{Literals, still, Steady}
 use Rattle.engine.proofs.StackLaws.{Stk}
 use Rattle.engine.proofs.QueueLaws.{Open}
-use Rattle.engine.proofs.Invariant.{Fit, Keeps, keeps-ok, keeps-err, keeps-stop, KeepsFrom, Keeping, Tested, eval-keeps}
+use Rattle.engine.specs.Fit.{Fit}
+use Rattle.engine.proofs.Invariant.{Keeps, keeps-ok, keeps-err, keeps-stop, KeepsFrom, Keeping, Tested, eval-keeps}
 use Rattle.engine.proofs.Simulation.{Sim, sim-ok, sim-err, sim-stop, Preserves, Good, pest-of, eval-sim}
 
 -- A loop with no bound: "Repeat runs until Err and answers Ok; .. pass on an Err that comes with a limit cause".

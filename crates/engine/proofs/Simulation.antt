@@ -29,7 +29,8 @@ use Rattle.engine.proofs.Trees.{Literals, still, Steady}
 use Rattle.engine.proofs.Matchers.{string-same, folded-same, range-same, skip-same, entries-same, index-same, end-same, slice-same}
 use Rattle.engine.proofs.StackLaws.{Stk, Inv, pest, inv-push, inv-snapshot, inv-pop, inv-restore, inv-clear, Popped, Restored, Cleared}
 use Rattle.engine.proofs.QueueLaws.{Open, top, inside, prefix, queue-from, length-queue, Grows, grows-refl, grows-trans, grows-add, grows-tag, grows-cut, truncate-queue, tag-queue, length-prefix, close-queue, drop-rule}
-use Rattle.engine.proofs.Invariant.{Fit, Keeps, keeps-ok, keeps-err, keeps-stop, Keeping, KeepsFrom, Tested, checkpoint-fit, pushed-fit, toggled, toggled-back, level-keeps, eval-keeps, refused-keeps}
+use Rattle.engine.specs.Fit.{Fit}
+use Rattle.engine.proofs.Invariant.{Keeps, keeps-ok, keeps-err, keeps-stop, Keeping, KeepsFrom, Tested, checkpoint-fit, pushed-fit, toggled, toggled-back, level-keeps, eval-keeps, refused-keeps}
 
 -- ── The relation ──
 abbrev budget : (limit counted : ℕ) → Option CallLimit

@@ -14,3 +14,4 @@ pub mod Sound
 pub mod Entry
 pub mod Tokens
 pub mod Lines
+pub mod Fit

@@ -12,7 +12,7 @@ use lib.Dec.{eqb, ltb, leb}
 use lib.ListN.{length, take, drop, getD, length-drop}
 use lib.Seq.{drop-drop, getD-drop, take-nil}
 use borrow.Author.Tests.{eqb-true, ltb-true, ltb-false, leb-true}
-use Rattle.matching.specs.Utf8.{Character, decode, Utf8, utf8-end, utf8-next}
+use Rattle.matching.specs.Utf8.{Character, decode, Utf8, utf8-end, utf8-next, Edge}
 use Rattle.matching.specs.Position.{starts-by, fold-case, same-folded, past, match-by, match-char-by, skip, bytes-of}
 use Rattle.matching.proofs.Lead.{and-left, and-right, size-by, decode-nil, lead, Led, led, is-tail, row-ruled, fits-tails, row-one}
 use Rattle.matching.proofs.Forward.{char-size, Found, found, string-forward, char-forward}
@@ -129,16 +129,12 @@ between n x (utf8-next x′ c q u) l v = go n l v (λ m. between m (drop (c .siz
 
 -- ── Edges of a text ──
 module _ (text : List ℕ) where
-  pub record Edge (p : ℕ) : Type 0 where
-    pub inside : p ≤ length text
-    pub whole : Utf8 (drop p text)
-
   -- Nothing was matched, or the match ended at an edge, and not before p.
   pub data Lands (p : ℕ) : Option ℕ → Type 0 where
     lands-not : Lands p none
-    lands : (q : ℕ) → p ≤ q → Edge q → Lands p (some q)
+    lands : (q : ℕ) → p ≤ q → Edge text q → Lands p (some q)
 
-  pub string-lands : (same : ℕ → ℕ → Bool) → KeepsClass same → (l : List ℕ) → Utf8 l → (p : ℕ) → Edge p → Lands p (match-by text same l p)
+  pub string-lands : (same : ℕ → ℕ → Bool) → KeepsClass same → (l : List ℕ) → Utf8 l → (p : ℕ) → Edge text p → Lands p (match-by text same l p)
   unfolding match-by
   string-lands same h l u p g = go (leb p (length text)) (starts-by same l (drop p text)) refl (string-forward text same l p)
     where
@@ -147,7 +143,7 @@ module _ (text : List ℕ) where
       go true false e x = lands-not
       go false b e x = lands-not
 
-  pub char-lands : (good : ℕ → Bool) (p : ℕ) → Edge p → Lands p (match-char-by text good p)
+  pub char-lands : (good : ℕ → Bool) (p : ℕ) → Edge text p → Lands p (match-char-by text good p)
   unfolding match-char-by
   char-lands good p g = go (decode (drop p text)) refl (char-forward text good p)
     where
@@ -164,7 +160,7 @@ module _ (text : List ℕ) where
   lands-on q h o lands-not = lands-not
   lands-on q h o (lands r k g) = lands r (omega arith) g
 
-  pub skip-lands : (n p : ℕ) → Edge p → Lands p (skip text n p)
+  pub skip-lands : (n p : ℕ) → Edge text p → Lands p (skip text n p)
   skip-lands zero p g = go (leb p (length text))
     where
       go : (b : Bool) → Lands p (cond b (some p) none)
@@ -172,11 +168,11 @@ module _ (text : List ℕ) where
       go false = lands-not
   skip-lands (suc n) p g = go (match-char-by text (λ v. true) p) (char-lands (λ v. true) p g) (λ q. skip-lands n q)
     where
-      go : (o : Option ℕ) → Lands p o → ((q : ℕ) → Edge q → Lands q (skip text n q)) → Lands p (then-skip text n o)
+      go : (o : Option ℕ) → Lands p o → ((q : ℕ) → Edge text q → Lands q (skip text n q)) → Lands p (then-skip text n o)
       go o lands-not ih = lands-not
       go o (lands q k e) ih = lands-on q k _ (ih q e)
 
-  pub span-whole : (p q : ℕ) → p ≤ q → Edge p → Edge q → Utf8 (bytes-of text p q)
+  pub span-whole : (p q : ℕ) → p ≤ q → Edge text p → Edge text q → Utf8 (bytes-of text p q)
   span-whole p q h a b =
       let n : p + (q - p) ≡ q = omega arith in
       between (q - p) (drop p text) (a .whole) (omega (arith, length-drop p text, b .inside)) (subst Utf8 (sym (drop-drop (q - p) p text ∙ ap (λ (m : ℕ). drop m text) n)) (b .whole))
