@@ -4,3 +4,5 @@ pub mod Exact
 pub mod TrackerLaws
 pub mod AreaLaws
 pub mod TokenLaws
+pub mod AttemptLaws
+pub mod ReportLaws

@@ -10,3 +10,5 @@ pub mod Cases
 pub mod Areas
 pub mod Entry
 pub mod Tokens
+pub mod Attempts
+pub mod Report
