@@ -18,3 +18,5 @@ pub mod Simulation
 pub mod Unbounded
 pub mod Agree
 pub mod Loop
+pub mod AttemptLaws
+pub mod ReportLaws

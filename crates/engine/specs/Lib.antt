@@ -15,3 +15,5 @@ pub mod Entry
 pub mod Tokens
 pub mod Lines
 pub mod Fit
+pub mod Attempts
+pub mod Report
