@@ -16,11 +16,15 @@ use mir.Syntax.{w32}
 use mir.Val.{SFits, toZ, ofZ}
 use mir.Facts.{toZ-ofZ}
 use borrow.Author.Tests.{ltb-true, leb-true, lt-ltb, le-ltb, eq-eqb, ne-eqb}
-use Rattle.sheet.specs.Field.{behind-spaces, digit, decimal, natural, positive, negative, signed, field}
+use Rattle.sheet.specs.Field.{and-then, behind-spaces, digit, decimal, natural, positive, negative, signed, field}
 use Rattle.sheet.specs.Answers.{digits-of, told, field-of}
 use Rattle.sheet.specs.declared.field.Digits.{Digits}
 use Rattle.sheet.specs.declared.field.Digits.the-variants.{Value, Other}
 use Rattle.sheet.specs.declared.field.Field.the-variants.{Number, Malformed}
+
+pub then-some : {A B : Type 0} (o : Option A) (f : A → Option B) (y : B) → and-then o f ≡ some y → (a : A) × (o ≡ some a) × (f a ≡ some y)
+then-some none f y e = let z : _≡_ {A = ℕ} 0 1 = cc in absurd (omega arith)
+then-some (some a) f y e = (a, refl, e)
 
 pub told-back : (o : Option ℕ) → told (digits-of o) ≡ o
 unfolding digits-of told

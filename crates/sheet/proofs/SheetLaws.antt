@@ -20,7 +20,7 @@ use Rattle.sheet.specs.Area.{over}
 use Rattle.sheet.specs.Field.{and-then, field}
 use Rattle.sheet.specs.Sheet.{cut, count, lines, ended, lined, Node, columns, line, first-malformed, four, numbers, Reading, refused, read, reading, outcome, area-after, SheetRead}
 use Rattle.sheet.specs.Answers.{field-of, line-of}
-use Rattle.sheet.proofs.FieldLaws.{field-back}
+use Rattle.sheet.proofs.FieldLaws.{then-some, field-back}
 use Rattle.sheet.specs.declared.field.Field.{Field}
 use Rattle.sheet.specs.declared.field.Field.the-variants.{Number, Malformed}
 use Rattle.sheet.specs.declared.sheet.Line.{Line}
@@ -172,10 +172,6 @@ is-bad none e = refl
 is-bad (some n) e = cc
 
 -- the machine hands the four numbers of a line on as they are
-then-some : {A B : Type 0} (o : Option A) (f : A → Option B) (y : B) → and-then o f ≡ some y → (a : A) × (o ≡ some a) × (f a ≡ some y)
-then-some none f y e = let z : _≡_ {A = ℕ} 0 1 = cc in absurd (omega arith)
-then-some (some a) f y e = (a, refl, e)
-
 pub line-kept : (l : List ℕ) (k a b c : ℤ) → line l ≡ some (record { kind = k; a = a; b = b; c = c }) → (kept k ≡ k) × (kept a ≡ a) × (kept b ≡ b) × (kept c ≡ c)
 unfolding line
 line-kept l k a b c e =

@@ -1,4 +1,5 @@
 pub mod Field
+pub mod Numeral
 pub mod Area
 pub mod Sheet
 pub mod Answers
