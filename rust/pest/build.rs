@@ -41,7 +41,9 @@ fn pest_src(here: &Path) -> PathBuf {
     here.ancestors()
         .map(|folder| folder.join("shared/docs/src"))
         .find(|folder| folder.join("src/parser_state.rs").is_file())
-        .expect("pest's files: no shared/docs/src beside this clone; set PEST_SRC (see rust/README.md)")
+        .expect(
+            "pest's files: no shared/docs/src beside this clone; set PEST_SRC (see rust/README.md)",
+        )
 }
 
 fn module(file: &Path, name: &str) -> String {

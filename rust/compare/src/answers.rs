@@ -72,8 +72,7 @@ impl Record {
 
     fn decode(words: &[u16]) -> Record {
         let mut reader = Reader { words: &words[2..] };
-        let outcome =
-            Outcome { number: reader.word(), place: reader.word(), count: reader.word() };
+        let outcome = Outcome { number: reader.word(), place: reader.word(), count: reader.word() };
         let (depth_limit, call_limit) = (reader.pair(), reader.pair());
         let [tokens, report, scratch] = [(); 3].map(|()| reader.word() as usize);
         let [nodes_given, nodes_in_all, literals_given] = [(); 3].map(|()| reader.word() as usize);
@@ -89,16 +88,7 @@ impl Record {
         let mut text = reader.bytes(text_given);
         text.resize(text_in_all, FILLER);
         let held = if outcome.number == 0 { 5 * outcome.count as usize } else { 0 };
-        let case = Case {
-            nodes,
-            literals,
-            text,
-            depth_limit,
-            call_limit,
-            tokens,
-            report,
-            scratch,
-        };
+        let case = Case { nodes, literals, text, depth_limit, call_limit, tokens, report, scratch };
         let record = Record {
             case,
             outcome,
@@ -120,7 +110,8 @@ impl Record {
         let mut report = Vec::new();
         if self.outcome.number == 10 {
             let counts = [self.positives.len() as u32, self.negatives.len() as u32];
-            report = [&[self.outcome.place], &counts[..], &self.positives, &self.negatives].concat();
+            report =
+                [&[self.outcome.place], &counts[..], &self.positives, &self.negatives].concat();
         }
         report.resize(self.case.report, 0);
         (tokens, report)
@@ -164,9 +155,9 @@ fn push_number(words: &mut Vec<u16>, number: i32) {
 }
 
 fn push_bytes(words: &mut Vec<u16>, bytes: &[u8]) {
-    words.extend(bytes.chunks(2).map(|two| {
-        u16::from_le_bytes([two[0], two.get(1).copied().unwrap_or(0)])
-    }));
+    words.extend(
+        bytes.chunks(2).map(|two| u16::from_le_bytes([two[0], two.get(1).copied().unwrap_or(0)])),
+    );
 }
 
 struct Reader<'w> {

@@ -74,9 +74,8 @@ fn texts() -> Vec<(Case, u32)> {
 fn sheets() -> Vec<(Case, u32)> {
     let ends = |count: usize| vec![[5, 0, 0, 0]; count];
     // A chain of and_then as deep as a sheet can name it.
-    let chain: Vec<[i32; 4]> = (0..4_096)
-        .map(|line| if line == 0 { [4, 0, 0, 0] } else { [6, line, 1, 0] })
-        .collect();
+    let chain: Vec<[i32; 4]> =
+        (0..4_096).map(|line| if line == 0 { [4, 0, 0, 0] } else { [6, line, 1, 0] }).collect();
     vec![
         (Case::new(&ends(4_096), "", ""), 0),
         (Case::new(&ends(4_097), "", ""), 5),
@@ -110,7 +109,8 @@ fn depths() -> Vec<(Case, u32)> {
 /// Full, and one more, of each list.
 fn capacities() -> Vec<(Case, u32)> {
     let pair = [[4, 0, 0, 0], [8, 7, 1, 0]];
-    let tokens = |nodes: &[[i32; 4]], area: usize| Case { tokens: area, ..Case::new(nodes, "", "") };
+    let tokens =
+        |nodes: &[[i32; 4]], area: usize| Case { tokens: area, ..Case::new(nodes, "", "") };
     // 65,534 tokens fit; two pairs more do not, however long the area is.
     let many = doubled(&pair, 6, 15);
     let too_many = [many.clone(), vec![[6, 17, 17, 0]]].concat();

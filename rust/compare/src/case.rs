@@ -55,7 +55,11 @@ impl fmt::Display for Case {
         writeln!(f, "  literals: {}", shown(&self.literals))?;
         writeln!(f, "  text: {}", shown(&self.text))?;
         writeln!(f, "  depth limit {}, call limit {}", self.depth_limit, self.call_limit)?;
-        write!(f, "  areas: tokens {}, report {}, scratch {}", self.tokens, self.report, self.scratch)
+        write!(
+            f,
+            "  areas: tokens {}, report {}, scratch {}",
+            self.tokens, self.report, self.scratch
+        )
     }
 }
 

@@ -3,9 +3,8 @@
 use crate::case::Case;
 use crate::rng::Rng;
 
-const FIELDS: [i32; 16] = [
-    0, 1, 2, 3, 8, 20, 21, -1, -2, 0xD800, 0xDFFF, 0x110000, 65_535, 65_536, i32::MIN, i32::MAX,
-];
+const FIELDS: [i32; 16] =
+    [0, 1, 2, 3, 8, 20, 21, -1, -2, 0xD800, 0xDFFF, 0x110000, 65_535, 65_536, i32::MIN, i32::MAX];
 const BYTES: [u8; 8] = [0x80, 0xBF, 0xC0, 0xC3, 0xE0, 0xED, 0xF4, 0xFF];
 
 pub fn damage(rng: &mut Rng, mut case: Case) -> Case {

@@ -97,5 +97,11 @@ pub fn texts(letters: usize, length: usize) -> Vec<String> {
 
 pub fn case(nodes: &[i32], text: &str, setting: (u32, u32, usize)) -> Case {
     let (depth_limit, call_limit, tokens) = setting;
-    Case { nodes: nodes.to_vec(), depth_limit, call_limit, tokens, ..Case::new(&[], LITERALS, text) }
+    Case {
+        nodes: nodes.to_vec(),
+        depth_limit,
+        call_limit,
+        tokens,
+        ..Case::new(&[], LITERALS, text)
+    }
 }

@@ -316,10 +316,6 @@ fn final_of(ok: bool, last: &oracle::Final, call_limit: u32) -> watch::Final {
     }
 }
 
-fn different<T>(
-    what: &str,
-    one: &dyn fmt::Debug,
-    other: &dyn fmt::Debug,
-) -> Result<T, Difference> {
+fn different<T>(what: &str, one: &dyn fmt::Debug, other: &dyn fmt::Debug) -> Result<T, Difference> {
     Err(Difference(format!("{what}:\n  {one:?}\n  {other:?}")))
 }

@@ -175,8 +175,7 @@ fn literal(rng: &mut Rng, literals: &str) -> (i32, i32) {
 }
 
 fn range(rng: &mut Rng) -> [i32; 4] {
-    const EDGES: [i32; 12] =
-        [0, 65, 97, 98, 99, 122, 127, 233, 0x6F22, 0xD7FF, 0xE000, 0x10FFFF];
+    const EDGES: [i32; 12] = [0, 65, 97, 98, 99, 122, 127, 233, 0x6F22, 0xD7FF, 0xE000, 0x10FFFF];
     let (x, y) = (rng.pick(&EDGES), rng.pick(&EDGES));
     if rng.once_in(12) {
         [3, x, y, 0]

@@ -65,7 +65,11 @@ impl Sampler<'_> {
             2 => {
                 let upper = rng.once_in(2);
                 let literal = &self.literals[line_a..][..line_b];
-                self.out += &if upper { literal.to_ascii_uppercase() } else { literal.to_ascii_lowercase() };
+                self.out += &if upper {
+                    literal.to_ascii_uppercase()
+                } else {
+                    literal.to_ascii_lowercase()
+                };
             }
             3 => self.range(rng, a as u32, b as u32),
             4 => (0..a.min(3)).for_each(|_| self.out.push(letter(rng, self.literals))),

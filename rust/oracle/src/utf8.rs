@@ -4,7 +4,9 @@
 pub fn character(bytes: &[u8], at: usize) -> Option<(u32, usize)> {
     let rest = bytes.get(at..)?;
     let tail = |index: usize, low: u8, high: u8| {
-        rest.get(index).filter(|byte| (low..=high).contains(*byte)).map(|byte| u32::from(byte & 0x3F))
+        rest.get(index)
+            .filter(|byte| (low..=high).contains(*byte))
+            .map(|byte| u32::from(byte & 0x3F))
     };
     let first = *rest.first()?;
     let lead = u32::from(first);
@@ -28,7 +30,8 @@ pub fn character(bytes: &[u8], at: usize) -> Option<(u32, usize)> {
                 0xF4 => (0x80, 0x8F),
                 _ => (0x80, 0xBF),
             };
-            let three = tail(1, low, high)? << 12 | tail(2, 0x80, 0xBF)? << 6 | tail(3, 0x80, 0xBF)?;
+            let three =
+                tail(1, low, high)? << 12 | tail(2, 0x80, 0xBF)? << 6 | tail(3, 0x80, 0xBF)?;
             Some(((lead & 0x07) << 18 | three, 4))
         }
         _ => None,

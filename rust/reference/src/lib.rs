@@ -13,7 +13,7 @@ use std::num::NonZeroUsize;
 use std::sync::{Mutex, MutexGuard, PoisonError};
 
 use pest::error::{Error, ErrorVariant, InputLocation};
-use pest::iterators::QueueableToken;
+use pest::iterators::{Pairs, QueueableToken};
 use pest::ParserState;
 
 pub use driver::Watch;
@@ -52,15 +52,34 @@ pub fn watched_state<W: Watch>(
     call_limit: u32,
     watch: &W,
 ) -> Ending {
+    match pest_state(sheet, text, depth_limit, call_limit, watch) {
+        Ok(pairs) => Ending::Parsed { tokens: pairs.tokens().queue().iter().map(token).collect() },
+        Err(error) => failed(error),
+    }
+}
+
+/// A run as a benchmark wants it: the queue's length, and nothing turned into numbers.
+pub fn queue_length(
+    sheet: &Sheet<'_>,
+    text: &str,
+    depth_limit: u32,
+    call_limit: u32,
+) -> Option<usize> {
+    let pairs = pest_state(sheet, text, depth_limit, call_limit, &Unwatched).ok()?;
+    Some(pairs.tokens().queue().len())
+}
+
+fn pest_state<'i, W: Watch>(
+    sheet: &Sheet<'_>,
+    text: &'i str,
+    depth_limit: u32,
+    call_limit: u32,
+    watch: &W,
+) -> Result<Pairs<'i, Rule>, Error<Rule>> {
     let _alone = set_call_limit(call_limit);
     pest_stack_guard::set_depth_limit(depth_limit);
     let driver = Driver { sheet, watch };
-    match pest::state(text, |state| driver.root(state)) {
-        Ok(pairs) => Ending::Parsed {
-            tokens: pairs.tokens().queue().iter().map(token).collect(),
-        },
-        Err(error) => failed(error),
-    }
+    pest::state(text, |state| driver.root(state))
 }
 
 /// pest's call limit holds for the whole process, and a `ParserState` takes it when it is made:

@@ -1,4 +1,4 @@
-//! Stand-in: what `pairs.rs` and `flat_pairs.rs` ask of a pair.
+//! Stand-in: what `pairs.rs`, `flat_pairs.rs` and the examples in pest's comments ask of a pair.
 
 use alloc::rc::Rc;
 use alloc::vec::Vec;
@@ -34,6 +34,13 @@ impl<'i, R: RuleType> Pair<'i, R> {
         }
     }
 
+    pub fn as_rule(&self) -> R {
+        match self.end() {
+            QueueableToken::End { rule, .. } => *rule,
+            _ => unreachable!(),
+        }
+    }
+
     pub fn as_node_tag(&self) -> Option<&str> {
         match self.end() {
             QueueableToken::End { tag, .. } => *tag,
@@ -46,6 +53,12 @@ impl<'i, R: RuleType> Pair<'i, R> {
             QueueableToken::Start { end_token_index, .. } => &self.queue[end_token_index],
             _ => unreachable!(),
         }
+    }
+}
+
+impl<R> PartialEq for Pair<'_, R> {
+    fn eq(&self, other: &Self) -> bool {
+        Rc::ptr_eq(&self.queue, &other.queue) && self.start == other.start
     }
 }
 
