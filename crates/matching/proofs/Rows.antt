@@ -1,6 +1,6 @@
 -- A row of the grammar against the bytes of a slice from a place on, one byte at a time: what the functions of src/utf8.rt test and add up.
 use mathlib.Core.Path.{_≡_, refl, sym, _∙_}
-use mathlib.Core.Bool.{Bool, true, false, _&&_}
+use mathlib.Core.Bool.{Bool, true, false, not, _&&_}
 use mathlib.Core.List.{List, [], _∷_}
 use mathlib.Core.Option.{none, some}
 use Prim.Native.Nat.{ℕ, suc, _+_, _-_, _*_, _≤_, _<_}
@@ -9,6 +9,7 @@ use native.Mathlib.Decide.{decLe}
 use native.Mathlib.Numerals.{add-one}
 use lib.ListN.{length, take, drop, getD, drop-of-length-le}
 use lib.Seq.{drop-cons}
+use borrow.Author.Tests.{not-true, not-false}
 use Rattle.matching.specs.Utf8.{Range, range, within, fits, mark, with-tails, value-of, first-of, decode}
 use Rattle.matching.specs.Contracts.{char-of}
 use Rattle.matching.specs.declared.utf8.Char.{Char}
@@ -32,13 +33,14 @@ module _ (s : List ℕ) where
   pub fits-one : (i low high b : ℕ) → i < length s → b ≡ getD s i 0 → within low high b ≡ fits (range low high ∷ []) (drop i s)
   fits-one i low high b h e = rw e (sym (fits-at i (range low high) [] h ∙ and-true (within low high (getD s i 0))))
 
-  -- A byte that was found to fit is there.
+  -- A byte that fits a range is there.
   pub record Fitting (i low high : ℕ) : Type 0 where
+    pub fit : fits (range low high ∷ []) (drop i s) ≡ true
     pub there : i < length s
     pub from : low ≤ getD s i 0
     pub to : getD s i 0 ≤ high
 
-  pub fitting : (i low high : ℕ) → fits (range low high ∷ []) (drop i s) ≡ true → Fitting i low high
+  fitting : (i low high : ℕ) → fits (range low high ∷ []) (drop i s) ≡ true → Fitting i low high
   fitting i low high e = go (decLe (length s) i)
     where
       go : Dec (length s ≤ i) → Fitting i low high
@@ -46,25 +48,29 @@ module _ (s : List ℕ) where
       go (no h) =
           let k : i < length s = omega arith in
           let w : (low ≤ getD s i 0) × (getD s i 0 ≤ high) = within-true low high (getD s i 0) (fits-one i low high (getD s i 0) k refl ∙ e) in
-          record { there = k; from = w .0; to = w .1 }
+          record { fit = e; there = k; from = w .0; to = w .1 }
 
-  -- One byte more of a row, or one that ends it.
-  pub fits-more : (i j : ℕ) (r : Range) (rs : List Range) → j ≡ suc i → fits (r ∷ []) (drop i s) ≡ true → fits (r ∷ rs) (drop i s) ≡ fits rs (drop j s)
-  fits-more i j r rs q e =
-      let h : i < length s = fitting i (r .low) (r .high) e .there in
-      fits-at i r rs h ∙ rw (fits-one i (r .low) (r .high) (getD s i 0) h refl ∙ e, q)
+  -- What the code's test `!in_range(..)` tells where it went on, and where it stopped.
+  module _ (i low high : ℕ) (r : Bool) (e : r ≡ fits (range low high ∷ []) (drop i s)) where
+    pub in-range : not r ≡ false → Fitting i low high
+    in-range h = fitting i low high (sym e ∙ not-false r h)
 
-  pub fits-less : (i : ℕ) (r : Range) (rs : List Range) → fits (r ∷ []) (drop i s) ≡ false → fits (r ∷ rs) (drop i s) ≡ false
-  fits-less i r rs e = go (decLe (length s) i)
-    where
-      go : Dec (length s ≤ i) → fits (r ∷ rs) (drop i s) ≡ false
-      go (yes h) = fits-out i r rs h
-      go (no h) =
-          let k : i < length s = omega arith in
-          fits-at i r rs k ∙ rw (fits-one i (r .low) (r .high) (getD s i 0) k refl ∙ e)
+    pub out-of-range : not r ≡ true → (rs : List Range) → fits (range low high ∷ rs) (drop i s) ≡ false
+    out-of-range h rs = go (decLe (length s) i)
+      where
+        go : Dec (length s ≤ i) → fits (range low high ∷ rs) (drop i s) ≡ false
+        go (yes k) = fits-out i (range low high) rs k
+        go (no k) =
+            let l : i < length s = omega arith in
+            fits-at i (range low high) rs l ∙ rw (fits-one i low high (getD s i 0) l refl ∙ sym e ∙ not-true r h)
 
-  pub value-more : (i j v t n : ℕ) → i < length s → j ≡ suc i → t ≡ getD s i 0 - 128 → with-tails v (take (suc n) (drop i s)) ≡ with-tails (v * 64 + t) (take n (drop j s))
-  value-more i j v t n h q e = rw (drop-cons s i 0 h, q, e)
+  -- One byte more of a row: the test goes on at the next place, and the value takes six bits more.
+  module _ {i low high : ℕ} (f : Fitting i low high) (j : ℕ) (q : j ≡ suc i) where
+    pub fits-more : (rs : List Range) → fits (range low high ∷ rs) (drop i s) ≡ fits rs (drop j s)
+    fits-more rs = fits-at i (range low high) rs (f .there) ∙ rw (fits-one i low high (getD s i 0) (f .there) refl ∙ f .fit, q)
+
+    pub value-more : (v t n : ℕ) → t ≡ getD s i 0 - 0x80 → with-tails v (take (suc n) (drop i s)) ≡ with-tails (v * 64 + t) (take n (drop j s))
+    value-more v t n e = rw (drop-cons s i 0 (f .there), q, e)
 
   -- A row that begins with the very byte at a place.
   module _ (at a : ℕ) (h : at < length s) (e : a ≡ getD s at 0) (rs : List Range) where

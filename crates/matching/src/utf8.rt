@@ -34,15 +34,15 @@ fn in_range(s: &[u8], i: usize, low: u32, high: u32) -> bool
 
 // The six bits that a byte after the first carries.
 fn six_bits(b: u8) -> u32
-    requires { ⌜ (128 ≤ b) × (b ≤ 191) ⌝ }
-    ensures { λ r. ⌜ (r ≡ b - 128) × (r < 64) ⌝ }
+    requires { ⌜ (0x80 ≤ b) × (b ≤ 0xBF) ⌝ }
+    ensures { λ r. ⌜ (r ≡ b - 0x80) × (r < 64) ⌝ }
 {
     wide(b) - 0x80
 }
 
 // The character of two, three or four bytes that begins with `a`, by one row of the grammar: `low` to `high` is its range for the second byte.
 fn of_two(s: &[u8], at: usize, a: u32) -> Char
-    requires { ⌜ (at < length (now s)) × (a ≡ getD (now s) at 0) × (192 ≤ a) × (a < 256) ⌝ }
+    requires { ⌜ (at < length (now s)) × (a ≡ getD (now s) at 0) × (0xC0 ≤ a) × (a < 256) ⌝ }
     ensures { λ r. ⌜ r ≡ char-of (first-of ((range a a ∷ tail ∷ []) ∷ []) (drop at (now (s .entry)))) ⌝ }
 {
     if !in_range(s, at + 1, 0x80, 0xBF) {
@@ -53,7 +53,7 @@ fn of_two(s: &[u8], at: usize, a: u32) -> Char
 }
 
 fn of_three(s: &[u8], at: usize, a: u32, low: u32, high: u32) -> Char
-    requires { ⌜ (at < length (now s)) × (a ≡ getD (now s) at 0) × (224 ≤ a) × (a < 256) × (128 ≤ low) × (high ≤ 191) ⌝ }
+    requires { ⌜ (at < length (now s)) × (a ≡ getD (now s) at 0) × (0xE0 ≤ a) × (a < 256) × (0x80 ≤ low) × (high ≤ 0xBF) ⌝ }
     ensures { λ r. ⌜ r ≡ char-of (first-of ((range a a ∷ range low high ∷ tail ∷ []) ∷ []) (drop at (now (s .entry)))) ⌝ }
 {
     if !in_range(s, at + 1, low, high) {
@@ -68,7 +68,7 @@ fn of_three(s: &[u8], at: usize, a: u32, low: u32, high: u32) -> Char
 }
 
 fn of_four(s: &[u8], at: usize, a: u32, low: u32, high: u32) -> Char
-    requires { ⌜ (at < length (now s)) × (a ≡ getD (now s) at 0) × (240 ≤ a) × (a < 256) × (128 ≤ low) × (high ≤ 191) ⌝ }
+    requires { ⌜ (at < length (now s)) × (a ≡ getD (now s) at 0) × (0xF0 ≤ a) × (a < 256) × (0x80 ≤ low) × (high ≤ 0xBF) ⌝ }
     ensures { λ r. ⌜ r ≡ char-of (first-of ((range a a ∷ range low high ∷ tail ∷ tail ∷ []) ∷ []) (drop at (now (s .entry)))) ⌝ }
 {
     if !in_range(s, at + 1, low, high) {
@@ -88,7 +88,7 @@ fn of_four(s: &[u8], at: usize, a: u32, low: u32, high: u32) -> Char
 
 // The rows that begin with E0 to EF.
 fn three(s: &[u8], at: usize, a: u32) -> Char
-    requires { ⌜ (at < length (now s)) × (a ≡ getD (now s) at 0) × (224 ≤ a) × (a < 240) ⌝ }
+    requires { ⌜ (at < length (now s)) × (a ≡ getD (now s) at 0) × (0xE0 ≤ a) × (a < 0xF0) ⌝ }
     ensures { λ r. ⌜ r ≡ char-of (decode (drop at (now (s .entry)))) ⌝ }
 {
     if a == 0xE0 {
@@ -102,7 +102,7 @@ fn three(s: &[u8], at: usize, a: u32) -> Char
 
 // The rows that begin with F0 to F4.
 fn four(s: &[u8], at: usize, a: u32) -> Char
-    requires { ⌜ (at < length (now s)) × (a ≡ getD (now s) at 0) × (240 ≤ a) × (a ≤ 244) ⌝ }
+    requires { ⌜ (at < length (now s)) × (a ≡ getD (now s) at 0) × (0xF0 ≤ a) × (a ≤ 0xF4) ⌝ }
     ensures { λ r. ⌜ r ≡ char-of (decode (drop at (now (s .entry)))) ⌝ }
 {
     if a == 0xF0 {
@@ -116,7 +116,7 @@ fn four(s: &[u8], at: usize, a: u32) -> Char
 
 // A character that begins with a byte of 80 or above, so that `char_at` is short for ASCII.
 fn beyond_ascii(s: &[u8], at: usize, a: u32) -> Char
-    requires { ⌜ (at < length (now s)) × (a ≡ getD (now s) at 0) × (128 ≤ a) ⌝ }
+    requires { ⌜ (at < length (now s)) × (a ≡ getD (now s) at 0) × (0x80 ≤ a) ⌝ }
     ensures { λ r. ⌜ r ≡ char-of (decode (drop at (now (s .entry)))) ⌝ }
 {
     if a < 0xC2 {

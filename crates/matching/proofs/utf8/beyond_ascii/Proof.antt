@@ -1,7 +1,5 @@
 use mathlib.Core.List.{[], _∷_}
 use Rattle.matching.specs.Utf8.{tail}
-use mathlib.Core.Path.{ap, _∙_}
-use Rattle.matching.specs.Contracts.{char-of}
 use Rattle.matching.proofs.Lead.{row-gap, row-two, row-over}
 use Rattle.matching.proofs.Rows.{row-decodes, no-row}
 use borrow.Author.Needs.{needs}

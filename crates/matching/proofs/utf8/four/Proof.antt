@@ -1,7 +1,6 @@
 use mathlib.Core.List.{[], _∷_}
 use Rattle.matching.specs.Utf8.{range, tail}
 use mathlib.Core.Path.{ap, _∙_}
-use Rattle.matching.specs.Contracts.{char-of}
 use Rattle.matching.proofs.Lead.{row, row-f0, row-f4, row-four}
 use Rattle.matching.proofs.Rows.{row-decodes}
 use borrow.Author.Needs.{needs}

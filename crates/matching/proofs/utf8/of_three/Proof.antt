@@ -1,10 +1,9 @@
-use mathlib.Core.Path.{sym, _∙_}
+use mathlib.Core.Path.{_∙_}
 use mathlib.Core.List.{[], _∷_}
 use Prim.Native.Nat.{_+_}
 use native.Mathlib.Omega.{arith}
-use borrow.Author.Tests.{not-true, not-false}
 use Rattle.matching.specs.Utf8.{range, tail}
-use Rattle.matching.proofs.Rows.{fitting, fits-more, fits-less, row-fails, row-fits, value-more}
+use Rattle.matching.proofs.Rows.{in-range, out-of-range, fits-more, value-more, row-fails, row-fits}
 use borrow.Author.Needs.{needs}
 use Rattle.matching.proofs.utf8.of_three.Statement.{statement}
 use Rattle.matching.proofs.utf8.of_three.Tie as tie
@@ -20,7 +19,7 @@ returns c =
     let o = c .before .before .before in
     let s = o .args .s .now in
     let at = o .args .at in
-    row-fails s at (o .args .a) (o .pre .0) (o .pre .1) (range (o .args .low) (o .args .high) ∷ tail ∷ []) (fits-less s (at + 1) (range (o .args .low) (o .args .high)) (tail ∷ []) (sym (c .before .in-range .ensures) ∙ not-true _ (c .if1 .taken)))
+    row-fails s at (o .args .a) (o .pre .0) (o .pre .1) (range (o .args .low) (o .args .high) ∷ tail ∷ []) (out-of-range s (at + 1) (o .args .low) (o .args .high) _ (c .before .in-range .ensures) (c .if1 .taken) (tail ∷ []))
 
 add-in-range-2 : tie.Need-add-in-range-2
 add-in-range-2 c = search needs
@@ -33,26 +32,44 @@ returns-2 c =
     let o = c .before .before .before .before .before in
     let s = o .args .s .now in
     let at = o .args .at in
-    let f1 = sym (c .before .before .before .in-range .ensures) ∙ not-false _ (c .before .before .if1 .left) in
-    row-fails s at (o .args .a) (o .pre .0) (o .pre .1) (range (o .args .low) (o .args .high) ∷ tail ∷ []) (fits-more s (at + 1) (at + 2) (range (o .args .low) (o .args .high)) (tail ∷ []) (omega arith) f1 ∙ sym (c .before .in-range2 .ensures) ∙ not-true _ (c .if2 .taken))
+    let f = in-range s (at + 1) (o .args .low) (o .args .high) _ (c .before .before .before .in-range .ensures) (c .before .before .if1 .left) in
+    row-fails s at (o .args .a) (o .pre .0) (o .pre .1) (range (o .args .low) (o .args .high) ∷ tail ∷ []) (fits-more s f (at + 2) (omega arith) (tail ∷ []) ∙ out-of-range s (at + 2) 0x80 0xBF _ (c .before .in-range2 .ensures) (c .if2 .taken) [])
 
 add-six-bits : tie.Need-add-six-bits
 add-six-bits c = search needs
 
 shared-slice-read-six-bits : tie.Need-shared-slice-read-six-bits
-shared-slice-read-six-bits c = fitting (c .before .before .before .before .before .before .args .s .now) (c .before .before .before .before .before .before .args .at + 1) (c .before .before .before .before .before .before .args .low) (c .before .before .before .before .before .before .args .high) (sym (c .before .before .before .before .in-range .ensures) ∙ not-false _ (c .before .before .before .if1 .left)) .there
+shared-slice-read-six-bits c =
+    let o = c .before .before .before .before .before .before in
+    let s = o .args .s .now in
+    let at = o .args .at in
+    in-range s (at + 1) (o .args .low) (o .args .high) _ (c .before .before .before .before .in-range .ensures) (c .before .before .before .if1 .left) .there
 
 six-bits-requires : tie.Need-six-bits-requires
-six-bits-requires c κs = let f = fitting (c .before .before .before .before .before .before .args .s .now) (c .before .before .before .before .before .before .args .at + 1) (c .before .before .before .before .before .before .args .low) (c .before .before .before .before .before .before .args .high) (sym (c .before .before .before .before .in-range .ensures) ∙ not-false _ (c .before .before .before .if1 .left)) in (omega arith, omega arith)
+six-bits-requires c κs =
+    let o = c .before .before .before .before .before .before in
+    let s = o .args .s .now in
+    let at = o .args .at in
+    let f = in-range s (at + 1) (o .args .low) (o .args .high) _ (c .before .before .before .before .in-range .ensures) (c .before .before .before .if1 .left) in
+    (omega arith, omega arith)
 
 add-six-bits-2 : tie.Need-add-six-bits-2
 add-six-bits-2 c = search needs
 
 shared-slice-read-six-bits-2 : tie.Need-shared-slice-read-six-bits-2
-shared-slice-read-six-bits-2 c = fitting (c .before .before .before .before .before .before .before .before .args .s .now) (c .before .before .before .before .before .before .before .before .args .at + 2) 128 191 (sym (c .before .before .before .before .in-range2 .ensures) ∙ not-false _ (c .before .before .before .if2 .left)) .there
+shared-slice-read-six-bits-2 c =
+    let o = c .before .before .before .before .before .before .before .before in
+    let s = o .args .s .now in
+    let at = o .args .at in
+    in-range s (at + 2) 0x80 0xBF _ (c .before .before .before .before .in-range2 .ensures) (c .before .before .before .if2 .left) .there
 
 six-bits-requires-2 : tie.Need-six-bits-requires-2
-six-bits-requires-2 c κs = let f = fitting (c .before .before .before .before .before .before .before .before .args .s .now) (c .before .before .before .before .before .before .before .before .args .at + 2) 128 191 (sym (c .before .before .before .before .in-range2 .ensures) ∙ not-false _ (c .before .before .before .if2 .left)) in (omega arith, omega arith)
+six-bits-requires-2 c κs =
+    let o = c .before .before .before .before .before .before .before .before in
+    let s = o .args .s .now in
+    let at = o .args .at in
+    let f = in-range s (at + 2) 0x80 0xBF _ (c .before .before .before .before .in-range2 .ensures) (c .before .before .before .if2 .left) in
+    (omega arith, omega arith)
 
 sub-t14 : tie.Need-sub-t14
 sub-t14 c = search needs
@@ -74,9 +91,10 @@ returns-3 c =
     let o = c .before .before .before .before .before .before .before .before .before in
     let s = o .args .s .now in
     let at = o .args .at in
-    let f1 = sym (c .before .before .before .before .before .before .before .in-range .ensures) ∙ not-false _ (c .before .before .before .before .before .before .if1 .left) in
-    let f2 = sym (c .before .before .before .before .before .in-range2 .ensures) ∙ not-false _ (c .before .before .before .before .if2 .left) in
-    row-fits s at (o .args .a) (o .pre .0) (o .pre .1) (range (o .args .low) (o .args .high) ∷ tail ∷ []) _ (fits-more s (at + 1) (at + 2) (range (o .args .low) (o .args .high)) (tail ∷ []) (omega arith) f1 ∙ f2) (value-more s (at + 1) (at + 2) _ _ 1 (fitting s (at + 1) (o .args .low) (o .args .high) f1 .there) (omega arith) (c .before .before .six-bits .ensures .0) ∙ value-more s (at + 2) (at + 3) _ _ 0 (fitting s (at + 2) 128 191 f2 .there) (omega arith) (c .six-bits2 .ensures .0))
+    let f = in-range s (at + 1) (o .args .low) (o .args .high) _ (c .before .before .before .before .before .before .before .in-range .ensures) (c .before .before .before .before .before .before .if1 .left) in
+    let g = in-range s (at + 2) 0x80 0xBF _ (c .before .before .before .before .before .in-range2 .ensures) (c .before .before .before .before .if2 .left) in
+    row-fits s at (o .args .a) (o .pre .0) (o .pre .1) (range (o .args .low) (o .args .high) ∷ tail ∷ []) _ (fits-more s f (at + 2) (omega arith) (tail ∷ []) ∙ g .fit)
+    (value-more s f (at + 2) (omega arith) _ _ 1 (c .before .before .six-bits .ensures .0) ∙ value-more s g (at + 3) (omega arith) _ _ 0 (c .six-bits2 .ensures .0))
 
 pub of-three-spec : {M : Type 1} → statement M
 of-three-spec =

@@ -1,10 +1,8 @@
-use mathlib.Core.Path.{sym, _∙_}
 use mathlib.Core.List.{[], _∷_}
 use Prim.Native.Nat.{_+_}
 use native.Mathlib.Omega.{arith}
-use borrow.Author.Tests.{not-true, not-false}
 use Rattle.matching.specs.Utf8.{tail}
-use Rattle.matching.proofs.Rows.{fitting, row-fails, row-fits, value-more}
+use Rattle.matching.proofs.Rows.{in-range, out-of-range, value-more, row-fails, row-fits}
 use borrow.Author.Needs.{needs}
 use Rattle.matching.proofs.utf8.of_two.Statement.{statement}
 use Rattle.matching.proofs.utf8.of_two.Tie as tie
@@ -20,16 +18,25 @@ returns c =
     let o = c .before .before .before in
     let s = o .args .s .now in
     let at = o .args .at in
-    row-fails s at (o .args .a) (o .pre .0) (o .pre .1) (tail ∷ []) (sym (c .before .in-range .ensures) ∙ not-true _ (c .if1 .taken))
+    row-fails s at (o .args .a) (o .pre .0) (o .pre .1) (tail ∷ []) (out-of-range s (at + 1) 0x80 0xBF _ (c .before .in-range .ensures) (c .if1 .taken) [])
 
 add-six-bits : tie.Need-add-six-bits
 add-six-bits c = search needs
 
 shared-slice-read-six-bits : tie.Need-shared-slice-read-six-bits
-shared-slice-read-six-bits c = fitting (c .before .before .before .before .args .s .now) (c .before .before .before .before .args .at + 1) 128 191 (sym (c .before .before .in-range .ensures) ∙ not-false _ (c .before .if1 .left)) .there
+shared-slice-read-six-bits c =
+    let o = c .before .before .before .before in
+    let s = o .args .s .now in
+    let at = o .args .at in
+    in-range s (at + 1) 0x80 0xBF _ (c .before .before .in-range .ensures) (c .before .if1 .left) .there
 
 six-bits-requires : tie.Need-six-bits-requires
-six-bits-requires c κs = let f = fitting (c .before .before .before .before .args .s .now) (c .before .before .before .before .args .at + 1) 128 191 (sym (c .before .before .in-range .ensures) ∙ not-false _ (c .before .if1 .left)) in (omega arith, omega arith)
+six-bits-requires c κs =
+    let o = c .before .before .before .before in
+    let s = o .args .s .now in
+    let at = o .args .at in
+    let f = in-range s (at + 1) 0x80 0xBF _ (c .before .before .in-range .ensures) (c .before .if1 .left) in
+    (omega arith, omega arith)
 
 sub-t10 : tie.Need-sub-t10
 sub-t10 c = search needs
@@ -45,8 +52,9 @@ returns-2 c =
     let o = c .before .before .before .before .before in
     let s = o .args .s .now in
     let at = o .args .at in
-    let f1 = sym (c .before .before .before .in-range .ensures) ∙ not-false _ (c .before .before .if1 .left) in
-    row-fits s at (o .args .a) (o .pre .0) (o .pre .1) (tail ∷ []) _ (f1) (value-more s (at + 1) (at + 2) _ _ 0 (fitting s (at + 1) 128 191 f1 .there) (omega arith) (c .six-bits .ensures .0))
+    let f = in-range s (at + 1) 0x80 0xBF _ (c .before .before .before .in-range .ensures) (c .before .before .if1 .left) in
+    row-fits s at (o .args .a) (o .pre .0) (o .pre .1) (tail ∷ []) _ (f .fit)
+    (value-more s f (at + 2) (omega arith) _ _ 0 (c .six-bits .ensures .0))
 
 pub of-two-spec : {M : Type 1} → statement M
 of-two-spec =
