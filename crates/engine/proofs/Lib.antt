@@ -20,3 +20,5 @@ pub mod Agree
 pub mod Loop
 pub mod AttemptLaws
 pub mod ReportLaws
+pub mod Spines
+pub mod Climbs

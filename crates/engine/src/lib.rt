@@ -8,5 +8,6 @@ pub mod node;
 pub mod nullable;
 pub mod parser_state;
 pub mod queueable_token;
+pub mod spine;
 pub mod stack;
 pub mod state;

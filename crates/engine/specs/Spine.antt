@@ -1,0 +1,55 @@
+-- Left sides of kinds 6 and 7, one below the other: how the evaluation goes down them without opening a call.
+use mathlib.Core.Path.{_≡_}
+use mathlib.Core.Bool.{Bool, true, false, not}
+use mathlib.Core.Logic.{_⊎_}
+use mathlib.Core.List.{List}
+use Prim.Native.Nat.{ℕ, zero, suc, _*_, _≤_, _<_}
+use lib.IntN.{ℤ}
+use lib.ListN.{length}
+use lib.Dec.{eqb}
+use Rattle.engine.specs.declared.spine.Spine.{Spine}
+use Rattle.engine.specs.declared.parser_state.ParserState.{ParserState}
+use Rattle.engine.specs.declared.parser_state.Ending.{Ending}
+use Rattle.engine.specs.declared.parser_state.Ending.the-variants.{Ok, Err}
+use Rattle.engine.specs.Grammar.{natural, node-at, kind-at, line-count}
+
+abbrev pub left-of : List ℤ → (line : ℕ) → ℕ
+left-of ns l = natural (node-at ns l .a)
+
+-- The kinds with a left and a right side.
+abbrev pub Fork : (kind : ℕ) → Type 0
+Fork k = (k ≡ 6) ⊎ (k ≡ 7)
+
+-- The line i steps below, by left sides.
+unfoldable pub spine-line : List ℤ → (top i : ℕ) → ℕ
+spine-line ns top zero = top
+spine-line ns top (suc i) = left-of ns (spine-line ns top i)
+
+abbrev pub Forks : List ℤ → (top i : ℕ) → Type 0
+Forks ns top i = (j : ℕ) → j < i → Fork (kind-at ns (spine-line ns top j))
+
+-- What a walk by left sides asks: they lead to lower lines.
+pub record Slopes (ns : List ℤ) (top : ℕ) : Type 0 where
+  pub whole : line-count ns * 4 ≡ length ns
+  pub falls : (l : ℕ) → 1 ≤ l → l ≤ line-count ns → Fork (kind-at ns l) → (1 ≤ left-of ns l) × (left-of ns l < l)
+  pub low : 1 ≤ top
+  pub high : top ≤ line-count ns
+
+-- The leftmost line below a line.
+pub record Spined (ns : List ℤ) (top : ℕ) (r : Spine) : Type 0 where
+  pub forks : Forks ns top (r .count)
+  pub place : r .line ≡ spine-line ns top (r .count)
+  pub last : Fork (kind-at ns (r .line)) → ⊥
+
+-- Whether a fork's right side is evaluated, where its left side ended in Ok or not.
+abbrev pub goes-by : (and : Bool) → (good : Bool) → Bool
+goes-by true good = good
+goes-by false good = not good
+
+unfoldable pub goes : (kind : ℕ) → (good : Bool) → Bool
+goes k good = goes-by (eqb k 6) good
+
+-- An ending that is no stop.
+unfoldable pub ending-of : (good : Bool) → ParserState → Ending
+ending-of true s = Ok s
+ending-of false s = Err s

@@ -1,0 +1,65 @@
+// The left sides of kinds 6 and 7, one below the other. They open no call, so the evaluation goes down them in a loop and not by
+// recursion, which would take native stack for each.
+use crate::node::line_at;
+use crate::parser_state::Ending;
+use crate::parser_state::ParserState;
+ghost use mathlib.Core.Path.{_≡_};
+ghost use Rattle.engine.specs.Spine.{Slopes, Spined, Forks, spine-line, goes, ending-of};
+
+// The leftmost line below a line, and how many steps it is away.
+pub struct Spine {
+    pub count: usize,
+    pub line: usize,
+}
+
+pub fn descend(nodes: &[i32], top: usize) -> Spine
+    requires { ⌜ Slopes (now nodes) top ⌝ }
+    ensures { λ r. ⌜ Spined (now (nodes .entry)) top r ⌝ }
+{
+    let mut line = top;
+    let mut count = 0;
+    loop {
+        let n = line_at(nodes, line);
+        let kind = n.kind;
+        match kind {
+            6 | 7 => {
+                line = n.a;
+                count += 1;
+            }
+            _ => {
+                return Spine {
+                    count: count,
+                    line: line,
+                };
+            }
+        }
+    }
+}
+
+// The line that is i steps below `top`: found again from the top, so that no list of lines is kept.
+pub fn spine_at(nodes: &[i32], top: usize, i: usize) -> usize
+    requires { ⌜ Slopes (now nodes) top × Forks (now nodes) top i ⌝ }
+    ensures { λ r. ⌜ r ≡ spine-line (now (nodes .entry)) top i ⌝ }
+{
+    let mut line = top;
+    let mut j = 0;
+    while j < i {
+        let n = line_at(nodes, line);
+        line = n.a;
+        j += 1;
+    }
+    line
+}
+
+// Whether a fork's right side is evaluated, where its left side ended in Ok or not.
+pub fn goes_right(kind: usize, good: bool) -> bool
+    ensures { λ r. ⌜ r ≡ goes kind good ⌝ }
+{
+    if kind == 6 { good } else { !good }
+}
+
+pub fn ended(good: bool, s: ParserState) -> Ending
+    ensures { λ r. ⌜ r ≡ ending-of good s ⌝ }
+{
+    if good { Ending::Ok(s) } else { Ending::Err(s) }
+}
