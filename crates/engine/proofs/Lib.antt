@@ -4,3 +4,5 @@ pub mod Exact
 pub mod FieldLaws
 pub mod NullableLaws
 pub mod FirstLine
+pub mod EdgeLaws
+pub mod GrammarLaws

@@ -93,7 +93,7 @@ edge-byte x (utf8-next x′ c q u) h = at x′ q
         row-ruled a (k .ranges) (k .row-is) .no-tail
 
 -- The bytes of a character after its first are tails.
-tails-of : (x : List ℕ) (c : Character) → decode x ≡ some c → (i : ℕ) → suc i < c .size → is-tail (getD x (suc i) 0) ≡ true
+pub tails-of : (x : List ℕ) (c : Character) → decode x ≡ some c → (i : ℕ) → suc i < c .size → is-tail (getD x (suc i) 0) ≡ true
 tails-of [] c q i h = let z : _≡_ {A = ℕ} 0 1 = cc decode-nil in absurd (omega arith)
 tails-of (a ∷ x) c q i h =
     let k : Led a x c = led a x c q in
