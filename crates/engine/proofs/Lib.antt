@@ -6,3 +6,4 @@ pub mod NullableLaws
 pub mod FirstLine
 pub mod EdgeLaws
 pub mod GrammarLaws
+pub mod RefusalLaws

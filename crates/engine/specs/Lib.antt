@@ -9,3 +9,4 @@ pub mod Ford
 pub mod Cases
 pub mod Areas
 pub mod Lines
+pub mod Refusals

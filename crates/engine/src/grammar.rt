@@ -3,6 +3,8 @@ use crate::node::Field;
 use crate::node::field_at;
 use crate::node::line_at;
 use crate::node::row_of;
+use crate::nullable::still_repeat;
+use matching::utf8::is_utf8;
 ghost use mathlib.Core.Path.{_≡_};
 ghost use mathlib.Core.Bool.{Bool, true, _&&_, _||_};
 ghost use Prim.Native.Nat.{_+_, _*_, _≤_};
@@ -10,12 +12,20 @@ ghost use lib.Dec.{eqb};
 ghost use lib.ListN.{length};
 ghost use Rattle.matching.specs.Utf8.{within, is-utf8};
 ghost use Rattle.engine.specs.Grammar.{line-count, node-at, kind-at, edge, fields-fit, line-fits, first-line, misfit};
+ghost use Rattle.engine.specs.Outcome.{Input, good-text, first-of, refusal};
+ghost use Rattle.engine.specs.Refusals.{refused-of, Handed, later-tests};
 ghost use Rattle.engine.specs.Lines.{in-range, part-in, tests-of, fault-of, line-misfits};
 
 // The first line that a test finds; 0 stands for the nodes as a whole.
 pub enum Fault {
     No,
     At(u32),
+}
+
+// What the tests of a run find: the number and the place of the first refusal.
+pub enum Refused {
+    No,
+    By(u32, u32),
 }
 
 // Whether a field lies from `low` to `high`.
@@ -208,4 +218,53 @@ pub fn misfit(nodes: &[i32], literals: &[u8]) -> Fault
         return first_misfit(nodes, literals, count);
     }
     Fault::At(0)
+}
+
+// "over 65,535 bytes or not UTF-8"
+fn is_good_text(text: &[u8]) -> bool
+    ensures { λ r. ⌜ r ≡ good-text (now (text .entry)) ⌝ }
+{
+    if 65535 < text.len() {
+        return false;
+    }
+    is_utf8(text)
+}
+
+// Tests 7 to 9, which do not look at the grammar.
+fn later_refusal(text: &[u8], depth: u32, report: usize, scratch: usize) -> Refused
+    ensures { λ r. ⌜ r ≡ refused-of (first-of (later-tests (now (text .entry)) depth report scratch)) ⌝ }
+{
+    if !is_good_text(text) {
+        return Refused::By(7, 0);
+    }
+    if !((1 <= depth) & (depth <= 1024)) {
+        return Refused::By(8, 0);
+    }
+    if !((515 <= report) & (4864 <= scratch)) {
+        return Refused::By(9, 0);
+    }
+    Refused::No
+}
+
+// The tests of a run, 4 to 9, in order. Only where all pass is a run started.
+pub fn refusal(
+    nodes: &[i32],
+    literals: &[u8],
+    text: &[u8],
+    depth: u32,
+    report: usize,
+    scratch: usize,
+) -> Refused
+    ensures { λ r. ⌜ ((i : Input) → Handed i (now (nodes .entry)) (now (literals .entry)) (now (text .entry)) depth report scratch → r ≡ refused-of (refusal i)) ⌝ }
+{
+    if !is_good_text(literals) {
+        return Refused::By(4, 0);
+    }
+    match misfit(nodes, literals) {
+        Fault::At(place) => Refused::By(5, place),
+        Fault::No => match still_repeat(nodes) {
+            Fault::At(place) => Refused::By(6, place),
+            Fault::No => later_refusal(text, depth, report, scratch),
+        },
+    }
 }
