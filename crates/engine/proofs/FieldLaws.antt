@@ -1,8 +1,8 @@
 -- A signed 32-bit field as the machine reads it: what it reads back is the field, and its sign decides how it is read as a natural number.
 use Prim.Native.Nat.{ℕ, _*_, _-_, _<_, _^_}
 use native.Mathlib.Omega.{arith}
-use mathlib.Core.Path.{_≡_, refl, sym, ap, ap₂, _∙_}
-use mathlib.Core.Bool.{Bool, true, false, _&&_, true≢false}
+use mathlib.Core.Path.{_≡_, refl, sym, ap, _∙_}
+use mathlib.Core.Bool.{Bool, true, false, true≢false}
 use mathlib.Core.List.{List}
 use lib.Dec.{T}
 use lib.ListN.{length, getD, List·getD-eq-default}
@@ -14,8 +14,9 @@ use mir.Facts.{toZ-ofZ}
 use borrow.Author.Tests.{ltb-true, le-leb}
 use Rattle.engine.specs.declared.node.Line.{Line}
 use Rattle.engine.specs.declared.node.Ends.{Ends}
+use Rattle.engine.specs.declared.node.Field.{Field}
 use Rattle.engine.specs.Grammar.{natural, row, count, node-at}
-use Rattle.engine.specs.Lines.{line-of, ends-of}
+use Rattle.engine.specs.Lines.{line-of, ends-of, field-of}
 
 pub back : (x : ℤ) → SFits w32 x → toZ w32 (ofZ w32 x) ≡ x
 back x f = toZ-ofZ f
@@ -48,8 +49,11 @@ is-count : (x : ℤ) → leZ (pos 0) x ≡ count x
 is-count (pos n) = le-leb 0 n (omega arith)
 is-count (negsuc n) = refl
 
-pub count-is : (x : ℤ) → mag x < 2 ^ 31 → leZ (pos 0) (toZ w32 (ofZ w32 x)) ≡ count x
+count-is : (x : ℤ) → mag x < 2 ^ 31 → leZ (pos 0) (toZ w32 (ofZ w32 x)) ≡ count x
 count-is x h = rw (read-back x h) (is-count x)
+
+pub field-read : (x : ℤ) → mag x < 2 ^ 31 → {n : ℕ} → n ≡ natural (toZ w32 (ofZ w32 x)) → _≡_ {A = Field} record { count = leZ (pos 0) (toZ w32 (ofZ w32 x)); size = n } (field-of x)
+field-read x h e = λ i. record { count = count-is x h i; size = (e ∙ ap natural (read-back x h)) i }
 
 -- ── A whole line, read field by field ──
 module _ (ns : List ℤ) (l : ℕ) where
@@ -72,11 +76,6 @@ module _ (ns : List ℤ) (l : ℕ) where
       → _≡_ {A = Ends} record { start = toZ w32 (ofZ w32 (field (l * 4 - 3))); end = toZ w32 (ofZ w32 (field (l * 4 - 2))) } (ends-of (node-at ns l))
   unfolding node-at
   ends-read f g = λ i. record { start = read-back (field (l * 4 - 3)) f i; end = read-back (field (l * 4 - 2)) g i }
-
-  pub counts-read : {a b c : Bool} → a ≡ count (field (l * 4 - 3)) → b ≡ count (field (l * 4 - 2)) → c ≡ count (field (l * 4 - 1))
-      → (a && (b && c)) ≡ (count (node-at ns l .a) && (count (node-at ns l .b) && count (node-at ns l .c)))
-  unfolding node-at
-  counts-read e₁ e₂ e₃ = ap₂ (λ x y. x && y) e₁ (ap₂ (λ x y. x && y) e₂ e₃)
 
 -- ── A table of twenty rows ──
 module _ (rows : List Bool) (k : ℕ) where

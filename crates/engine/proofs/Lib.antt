@@ -22,3 +22,6 @@ pub mod AttemptLaws
 pub mod ReportLaws
 pub mod Spines
 pub mod Climbs
+pub mod EdgeLaws
+pub mod GrammarLaws
+pub mod RefusalLaws

@@ -1,11 +1,11 @@
 // Node lines: four signed numbers each. All signed arithmetic of the grammar stands here.
 ghost use mathlib.Core.Path.{_≡_};
-ghost use mathlib.Core.Bool.{false, _&&_};
+ghost use mathlib.Core.Bool.{false};
 ghost use Prim.Native.Nat.{_*_, _≤_, _<_};
 ghost use lib.IntN.{pos};
 ghost use lib.ListN.{length, getD};
-ghost use Rattle.engine.specs.Grammar.{natural, row, count, node-at};
-ghost use Rattle.engine.specs.Lines.{line-of, ends-of};
+ghost use Rattle.engine.specs.Grammar.{natural, row, node-at};
+ghost use Rattle.engine.specs.Lines.{line-of, ends-of, field-of};
 
 // A node whose fields are read as natural numbers.
 pub struct Line {
@@ -13,6 +13,12 @@ pub struct Line {
     pub a: usize,
     pub b: usize,
     pub c: usize,
+}
+
+// A field of a line: whether it is 0 or more, and it as a natural number.
+pub struct Field {
+    pub count: bool,
+    pub size: usize,
 }
 
 // The two ends that `stack_match_peek_slice` is given, which may be negative.
@@ -28,13 +34,17 @@ fn natural_of(x: i32) -> usize
     if x < 0 { 0 } else { x as usize }
 }
 
-// Whether a field is 0 or more.
-fn is_count(nodes: &[i32], i: usize) -> bool
+// A field with its sign.
+pub fn field_at(nodes: &[i32], i: usize) -> Field
     requires { ⌜ i < length (now nodes) ⌝ }
-    ensures { λ r. ⌜ r ≡ count (getD (now (nodes .entry)) i (pos 0)) ⌝ }
+    ensures { λ r. ⌜ r ≡ field-of (getD (now (nodes .entry)) i (pos 0)) ⌝ }
 {
     let x = nodes[i];
-    0 <= x
+    let size = natural_of(x);
+    Field {
+        count: 0 <= x,
+        size: size,
+    }
 }
 
 // The line, numbered from 1.
@@ -65,17 +75,6 @@ pub fn ends_at(nodes: &[i32], line: usize) -> Ends
         start: start,
         end: end,
     }
-}
-
-// Whether a, b and c are all 0 or more, as every kind but 16 asks.
-pub fn counts_at(nodes: &[i32], line: usize) -> bool
-    requires { ⌜ (1 ≤ line) × (line * 4 ≤ length (now nodes)) ⌝ }
-    ensures { λ r. ⌜ r ≡ (count (node-at (now (nodes .entry)) line .a) && (count (node-at (now (nodes .entry)) line .b) && count (node-at (now (nodes .entry)) line .c))) ⌝ }
-{
-    let a = is_count(nodes, line * 4 - 3);
-    let b = is_count(nodes, line * 4 - 2);
-    let c = is_count(nodes, line * 4 - 1);
-    a & (b & c)
 }
 
 // What a table of twenty rows, one for each kind, says of a kind.
