@@ -18,3 +18,4 @@ pub mod Simulation
 pub mod Unbounded
 pub mod Agree
 pub mod Loop
+pub mod FordLaws
