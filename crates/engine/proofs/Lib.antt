@@ -19,3 +19,4 @@ pub mod Unbounded
 pub mod Agree
 pub mod Loop
 pub mod FordLaws
+pub mod CharacterLaws
