@@ -9,9 +9,10 @@ use native.Mathlib.Omega.{arith}
 use lib.ListN.{length, take, drop}
 use lib.Dec.{eqb, leb}
 use borrow.Author.Tests.{eqb-true, eqb-false, eq-eqb, ne-eqb, leb-true}
-use Rattle.matching.specs.Utf8.{Range, range, tail, utf8-char, within, fits, value-of, Character, first-of, decode}
+use Rattle.matching.specs.Utf8.{Range, range, tail, utf8-char, within, fits, value-of, Character, first-of, decode, Utf8, utf8-end, utf8-next, after-value, characters, is-some}
 use Rattle.matching.specs.Position.{starts-by, fold-case, same-folded}
-use Rattle.matching.proofs.Lead.{and-left, and-right, within-true}
+use Rattle.matching.proofs.Lead.{and-left, and-right, within-true, decode-nil}
+use Rattle.matching.proofs.Characters.{characters-nil, characters-next, is-utf8-iff}
 
 -- ── The forms of a character: its size and value ──
 pub data Form : List ℕ → ℕ → ℕ → Type 0 where
@@ -246,3 +247,34 @@ module _ (same : ℕ → ℕ → Bool) (h : Ascii same) where
 
   pub compared : (l x : List ℕ) (c d : Character) → decode l ≡ some c → decode x ≡ some d → Compared same l x (c .size) (d .size) (c .value) (d .value)
   compared l x c d e f = compare l x (c .size) (d .size) (c .value) (d .value) (form-of l c e) (form-of x d f)
+
+-- ── The characters of a text ──
+abbrev or-nil : Option (List ℕ) → List ℕ
+or-nil none = []
+or-nil (some vs) = vs
+
+-- None of a text that is not UTF-8.
+abbrev pub characters-of : List ℕ → List ℕ
+characters-of x = or-nil (characters x)
+
+given : (o : Option (List ℕ)) → is-some o ≡ true → o ≡ some (or-nil o)
+given none e = no-byte e
+given (some vs) e = refl
+
+pub all-characters : (x : List ℕ) → Utf8 x → characters x ≡ some (characters-of x)
+all-characters x u = given (characters x) (is-utf8-iff x .1 u)
+
+pub of-nil : characters-of [] ≡ []
+of-nil = ap or-nil characters-nil
+
+pub of-next : (x : List ℕ) (c : Character) → decode x ≡ some c → Utf8 (drop (c .size) x) → characters-of x ≡ c .value ∷ characters-of (drop (c .size) x)
+of-next x c e u = ap or-nil (characters-next x c e ∙ ap (after-value (c .value)) (all-characters (drop (c .size) x) u))
+
+-- How a text of whole characters begins.
+pub data Begins (x : List ℕ) : Type 0 where
+  no-character : x ≡ [] → decode x ≡ none → characters-of x ≡ [] → Begins x
+  a-character : (c : Character) → decode x ≡ some c → Utf8 (drop (c .size) x) → characters-of x ≡ c .value ∷ characters-of (drop (c .size) x) → Begins x
+
+pub begins : (x : List ℕ) → Utf8 x → Begins x
+begins x utf8-end = no-character refl decode-nil of-nil
+begins x (utf8-next x′ c e u) = a-character c e u (of-next x′ c e u)

@@ -20,3 +20,5 @@ pub mod Agree
 pub mod Loop
 pub mod FordLaws
 pub mod CharacterLaws
+pub mod Plain
+pub mod Recognition
