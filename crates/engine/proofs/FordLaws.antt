@@ -38,6 +38,11 @@ module _ (rules : ℕ → Peg) where
   ford-unique e x o (f-not a x′ d) o′ (f-not-fail a′ x″ y′ d′) = apart (sym (ford-unique a x′ none d (some y′) d′))
   ford-unique e x o (f-not a x′ d) o′ (f-not a′ x″ d′) = refl
 
+  -- A repetition never fails.
+  pub star-left : (e : Peg) (x : List ℕ) (o : Option (List ℕ)) → Ford rules (star e) x o → o ≡ none → ⊥
+  star-left e x o (f-more a x′ y o₁ d f) q = star-left a y o₁ f q
+  star-left e x o (f-done a x′ d) q = apart q
+
   -- What is left, if the relation does not fail, is what follows some characters that it consumed.
   abbrev pub Suffix : List ℕ → Option (List ℕ) → Type 0
   Suffix x none = Unit {0}
