@@ -26,7 +26,10 @@ use Rattle.engine.specs.declared.call_limit_tracker.LimitKind.the-varian
 use Rattle.engine.specs.Ending.{if_then_else_, Ending, Ok, Err, Stop, on-ok, on-err, stop-if, is-negative, is-none, is-atomic}
 use Rattle.engine.specs.Grammar as Grammar
 use Rattle.engine.specs.Grammar.{Exp, RuleLine}
-use Rattle.engine.specs.Reading.{Setting, most-attempts, is-set}
+use Rattle.engine.specs.Reading as Reading
+use Rattle.engine.specs.Reading.{Setting, State, initial, most-attempts, is-set}
+use Rattle.engine.specs.Forest.{tokens}
+use Rattle.engine.specs.Outcome.{Answer, answer, of-limit, of-tokens, of-failure, ascending}
 use Rattle.engine.specs.Pest as Pest
 use Rattle.engine.specs.Pest.{ParserState, QueueableToken, CallLimitTracker, Entered, level, eval}
 use Rattle.engine.specs.Ford as Ford
@@ -37,6 +40,9 @@ use Rattle.engine.proofs.Plain.{Plain, whole}
 use Rattle.engine.proofs.CharacterLaws.{Ascii, eqb-ascii, folded-ascii, Compared, alike, unlike, compared, characters-of, all-characters, of-nil, of-next, Begins, no-character, a-character, begins}
 use Rattle.engine.proofs.Matchers.{string-same, folded-same, range-same, skip-same}
 use Rattle.engine.proofs.Invariant.{Fit, Keeps, keeps-ok, keeps-err, keeps-stop, KeepsFrom, Keeping, Tested, checkpoint-fit, pushed-fit, level-keeps, eval-keeps, refused-keeps}
+use Rattle.engine.proofs.QueueLaws.{top}
+use Rattle.engine.proofs.Simulation.{Sim, sim-ok, sim-err, sim-stop}
+use Rattle.engine.proofs.Agree.{initial-fit, run-sim}
 
 not-so : {A : Type 0} → false ≡ true → A
 not-so e = let z : _≡_ {A = ℕ} 0 1 = cc in absurd (omega arith)
@@ -514,3 +520,76 @@ module _ (g : Setting) (set : ℕ → Bool) (w : Tested g set) (plain : (l : ℕ
   pub eval-means : (depth : ℕ) (e : Exp) → Plain (g .rule-at) e → Literals e → Steady set e → RecognisesTree e (eval g true depth e)
   eval-means zero e p u y = level-means false (Pest.no-deeper g true) refused-means (refused-keeps g set w) e p u y
   eval-means (suc n) e p u y = level-means true (eval g true n) (eval-means n) (eval-keeps g set w n) e p u y
+
+-- ── What a run gives ──
+-- A run that ends without a limit cause, and what is left of the text's characters; none where it failed.
+pub data Recognised (g : Setting) : Ending State → Option (List ℕ) → Type 0 where
+  matched : (s : State) → s .tracker .cause ≡ none → Recognised g (Ok s) (some (characters-of (drop (s .position) (g .text))))
+  failed : (s : State) → s .tracker .cause ≡ none → Recognised g (Err s) none
+
+-- The numbers 0 and 10 are given for such an ending only.
+data Numbered (g : Setting) (r : Ending State) : ℕ → Type 0 where
+  parsed-end : (y : List ℕ) → Recognised g r (some y) → Numbered g r 0
+  failed-end : Recognised g r none → Numbered g r 10
+  other-end : (n : ℕ) → 11 ≤ n → Numbered g r n
+
+numbered : (g : Setting) (r : Ending State) → Numbered g r (answer r .number)
+numbered g (Ok s) = go (s .tracker .cause) refl
+  where
+    limit-end : (k : LimitKind) → Numbered g (Ok s) (of-limit k (s .attempts .furthest) .number)
+    limit-end LimitKind.Call = other-end 11 (omega arith)
+    limit-end LimitKind.Stack = other-end 12 (omega arith)
+
+    go : (c : Option LimitKind) → s .tracker .cause ≡ c → Numbered g (Ok s) ((elim c as (λ x. Answer) [ some k ↦ of-limit k (s .attempts .furthest) | none ↦ of-tokens (tokens (s .siblings)) ]) .number)
+    go none e = parsed-end (characters-of (drop (s .position) (g .text))) (matched s e)
+    go (some k) e = limit-end k
+numbered g (Err s) = go (s .tracker .cause) refl
+  where
+    limit-end : (k : LimitKind) → Numbered g (Err s) (of-limit k (s .attempts .furthest) .number)
+    limit-end LimitKind.Call = other-end 11 (omega arith)
+    limit-end LimitKind.Stack = other-end 12 (omega arith)
+
+    go : (c : Option LimitKind) → s .tracker .cause ≡ c
+        → Numbered g (Err s) ((elim c as (λ x. Answer) [ some k ↦ of-limit k (s .attempts .furthest) | none ↦ of-failure (s .attempts .furthest) (ascending (s .attempts .positive)) (ascending (s .attempts .negative)) ]) .number)
+    go none e = failed-end (failed s e)
+    go (some k) e = limit-end k
+numbered g (Stop (Cause.EmptyStack l)) = other-end 13 (omega arith)
+numbered g (Stop (Cause.TokensFull l)) = other-end 14 (omega arith)
+numbered g (Stop (Cause.StackFull l)) = other-end 15 (omega arith)
+numbered g (Stop (Cause.AttemptsFull l)) = other-end 16 (omega arith)
+
+module _ (g : Setting) (set : ℕ → Bool) (w : Tested g set) (plain : (l : ℕ) → Plain (g .rule-at) (g .rule-at l .body)) (u : Utf8 (g .text))
+    (depth : ℕ) (e : Exp) (p : Plain (g .rule-at) e) (y : Literals e) (z : Steady set e) where
+  abbrev run : Ending State
+  run = Reading.eval g depth e initial
+
+  -- Demand 2, the second half: a match or a failure is what Ford's relation gives on the text's characters ..
+  pub ford-at : (o : Option (List ℕ)) → Recognised g run o → Ford (rules-of g) (peg e) (characters-of (g .text)) o
+  ford-at o h = go o _ _ (run-sim g set w u depth e y z) (eval-means g set w plain depth e p y z (Pest.new (g .call-limit)) (initial-fit g u)) h
+    where
+      go : (o : Option (List ℕ)) (r : Ending State) (m : Ending ParserState) → Sim g top [] (initial .lookahead) (initial .atomicity) (initial .siblings) r m → Means g (peg e) (whole e) 0 none m → Recognised g r o
+          → Ford (rules-of g) (peg e) (characters-of (g .text)) o
+      go o r m (sim-ok s q i j) (means-ok n k) (matched t c) = k c .1
+      go o r m (sim-err s q i j) (means-err n k) (failed t c) = k c .1
+
+  -- .. and nothing else is.
+  pub ford-only : (o : Option (List ℕ)) → Recognised g run o → (o′ : Option (List ℕ)) → Ford (rules-of g) (peg e) (characters-of (g .text)) o′ → o′ ≡ o
+  ford-only o h o′ f = ford-unique (rules-of g) (peg e) (characters-of (g .text)) o′ f o (ford-at o h)
+
+  -- "a run gives 0 only where Ford's relation consumes a prefix of the text"
+  pub ford-parsed : answer run .number ≡ 0 → (y : List ℕ) × Ford (rules-of g) (peg e) (characters-of (g .text)) (some y) × ((c : List ℕ) × (characters-of (g .text) ≡ c ++ y))
+  ford-parsed q = go _ (numbered g run) q
+    where
+      go : (n : ℕ) → Numbered g run n → n ≡ 0 → (y : List ℕ) × Ford (rules-of g) (peg e) (characters-of (g .text)) (some y) × ((c : List ℕ) × (characters-of (g .text) ≡ c ++ y))
+      go n (parsed-end y h) q = (y, ford-at (some y) h, ford-suffix (rules-of g) (peg e) (characters-of (g .text)) y (ford-at (some y) h))
+      go n (failed-end h) q = absurd (omega arith)
+      go n (other-end n′ h) q = absurd (omega arith)
+
+  -- "and 10 only where it fails"
+  pub ford-failed : answer run .number ≡ 10 → Ford (rules-of g) (peg e) (characters-of (g .text)) none
+  ford-failed q = go _ (numbered g run) q
+    where
+      go : (n : ℕ) → Numbered g run n → n ≡ 10 → Ford (rules-of g) (peg e) (characters-of (g .text)) none
+      go n (parsed-end y h) q = absurd (omega arith)
+      go n (failed-end h) q = ford-at none h
+      go n (other-end n′ h) q = absurd (omega arith)
