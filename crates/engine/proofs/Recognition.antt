@@ -8,10 +8,10 @@ use mathlib.Core.Logic.{_≢_}
 use Prim.Native.Nat.{ℕ, zero, suc, _+_, _-_, _≤_, _<_}
 use native.Mathlib.Omega.{arith}
 use lib.ListN.{length, take, drop, set, getD, length-drop}
-use lib.Seq.{drop-drop, drop-length}
+use lib.Seq.{drop-drop}
 use lib.Dec.{eqb, ltb, leb}
 use borrow.Author.Tests.{eqb-true, eqb-false, le-leb}
-use Rattle.matching.specs.Utf8.{Utf8, utf8-end, utf8-next, Character, decode, within, characters}
+use Rattle.matching.specs.Utf8.{Utf8, utf8-end, utf8-next, decode, within, characters}
 use Rattle.matching.specs.Position as Position
 use Rattle.matching.specs.Position.{starts-by, same-folded, match-by, match-char-by, past}
 use Rattle.matching.proofs.Lead.{decode-nil}
@@ -36,12 +36,12 @@ use Rattle.engine.specs.Ford as Ford
 use Rattle.engine.specs.Ford.{Peg, Ford, peg, each, each-of, any, times}
 use Rattle.engine.proofs.Trees.{Literals, still, Steady}
 use Rattle.engine.proofs.FordLaws.{ford-unique, ford-suffix, star-left}
-use Rattle.engine.proofs.Plain.{Plain, whole}
+use Rattle.engine.proofs.Plain.{Calls, whole, Plain}
 use Rattle.engine.proofs.CharacterLaws.{Ascii, eqb-ascii, folded-ascii, Compared, alike, unlike, compared, characters-of, all-characters, of-nil, of-next, Begins, no-character, a-character, begins}
 use Rattle.engine.proofs.Matchers.{string-same, folded-same, range-same, skip-same}
-use Rattle.engine.proofs.Invariant.{Fit, Keeps, keeps-ok, keeps-err, keeps-stop, KeepsFrom, Keeping, Tested, checkpoint-fit, pushed-fit, level-keeps, eval-keeps, refused-keeps}
+use Rattle.engine.proofs.Invariant.{Fit, keeps-ok, keeps-err, KeepsFrom, Keeping, Tested, checkpoint-fit, pushed-fit, level-keeps, eval-keeps, refused-keeps}
 use Rattle.engine.proofs.QueueLaws.{top}
-use Rattle.engine.proofs.Simulation.{Sim, sim-ok, sim-err, sim-stop}
+use Rattle.engine.proofs.Simulation.{Sim, sim-ok, sim-err}
 use Rattle.engine.proofs.Agree.{initial-fit, run-sim}
 
 not-so : {A : Type 0} → false ≡ true → A
@@ -466,60 +466,66 @@ module _ (g : Setting) where
   nonterminal-means l r (means-stop x) = means-stop x
 
 -- ── All plain kinds ──
-module _ (g : Setting) (set : ℕ → Bool) (w : Tested g set) (plain : (l : ℕ) → Plain (g .rule-at) (g .rule-at l .body)) where
+-- The rules at some lines are plain, and call rules at such lines only.
+pub record PlainRules (g : Setting) (lines : ℕ → Type 0) : Type 0 where
+  pub plain : (l : ℕ) → lines l → Plain (g .rule-at l .body)
+  pub no-sequel : (l : ℕ) → lines l → whole (g .rule-at l .body) ≡ true
+  pub calls : (l : ℕ) → lines l → Calls lines (g .rule-at l .body)
+
+module _ (g : Setting) (set : ℕ → Bool) (w : Tested g set) (lines : ℕ → Type 0) (v : PlainRules g lines) where
   abbrev pub RecognisesTree : Exp → (ParserState → Ending ParserState) → Type 0
   RecognisesTree e f = Recognises g (peg e) (whole e) f
 
   module _ (room : Bool) (d : Exp → ParserState → Ending ParserState)
-      (h : (e : Exp) → Plain (g .rule-at) e → Literals e → Steady set e → RecognisesTree e (d e)) (k : (e : Exp) → Literals e → Steady set e → Keeping g (still set e) (d e)) where
+      (h : (e : Exp) → Plain e → Calls lines e → Literals e → Steady set e → RecognisesTree e (d e)) (k : (e : Exp) → Literals e → Steady set e → Keeping g (still set e) (d e)) where
     -- A tree that is not of kind 6.
     of-whole : (e : Exp) (f : ParserState → Ending ParserState) → whole e ≡ true → RecognisesTree e f → Recognises g (peg e) true f
     of-whole e f q z = subst (λ (b : Bool). Recognises g (peg e) b f) q z
 
-    body : (e : Exp) → Plain (g .rule-at) e → whole e ≡ true → Literals e → Steady set e → Recognises g (peg e) true (d e)
-    body e p q u y = of-whole e (d e) q (h e p u y)
+    body : (e : Exp) → Plain e → Calls lines e → whole e ≡ true → Literals e → Steady set e → Recognises g (peg e) true (d e)
+    body e p c q u y = of-whole e (d e) q (h e p c u y)
 
     counted : (e : Peg) (f : ParserState → Ending ParserState) → Recognises g e true f → Recognises g e true (λ m. Pest.check-limit room true m f)
     counted e f z = entering-means g e room true f z
 
-    level-means : (e : Exp) → Plain (g .rule-at) e → Literals e → Steady set e → RecognisesTree e (level g true room d e)
-    level-means (Grammar.match-string l) p u y = λ m x. moved-means g (peg (Grammar.match-string l)) m _ _ (string-same (g .text) l (m .position)) (string-ford (g .text) (rules-of g) eqb eqb-ascii l u (m .position) (x .edge))
-    level-means (Grammar.match-insensitive l) p u y = λ m x. moved-means g (peg (Grammar.match-insensitive l)) m _ _ (folded-same (g .text) l u (m .position) (x .edge .inside) (x .edge .whole))
+    level-means : (e : Exp) → Plain e → Calls lines e → Literals e → Steady set e → RecognisesTree e (level g true room d e)
+    level-means (Grammar.match-string l) p c u y = λ m x. moved-means g (peg (Grammar.match-string l)) m _ _ (string-same (g .text) l (m .position)) (string-ford (g .text) (rules-of g) eqb eqb-ascii l u (m .position) (x .edge))
+    level-means (Grammar.match-insensitive l) p c u y = λ m x. moved-means g (peg (Grammar.match-insensitive l)) m _ _ (folded-same (g .text) l u (m .position) (x .edge .inside) (x .edge .whole))
         (string-ford (g .text) (rules-of g) same-folded folded-ascii l u (m .position) (x .edge))
-    level-means (Grammar.match-range a b) p u y = λ m x. moved-means g (Ford.class (within a b)) m _ _ (range-same (g .text) a b (m .position)) (char-ford (g .text) (rules-of g) (within a b) (m .position) (x .edge))
-    level-means (Grammar.skip n) p u y = λ m x. moved-means g (times n) m _ _ (skip-same (g .text) n (m .position) (x .edge .inside)) (skip-ford (g .text) (rules-of g) n (m .position) (x .edge))
-    level-means Grammar.end-of-input p u y = end-means g
-    level-means (Grammar.and-then a b) p u y =
-        and-means g (peg a) (peg b) (whole a) (whole b) (still set a) (level g true room d a) (level g true room d b) (level-means a (p .0) (u .0) (y .0)) (level-means b (p .1) (u .1) (y .1)) (level-keeps g set w room d k a (u .0) (y .0))
-    level-means (Grammar.or-else a b) p u y =
+    level-means (Grammar.match-range a b) p c u y = λ m x. moved-means g (Ford.class (within a b)) m _ _ (range-same (g .text) a b (m .position)) (char-ford (g .text) (rules-of g) (within a b) (m .position) (x .edge))
+    level-means (Grammar.skip n) p c u y = λ m x. moved-means g (times n) m _ _ (skip-same (g .text) n (m .position) (x .edge .inside)) (skip-ford (g .text) (rules-of g) n (m .position) (x .edge))
+    level-means Grammar.end-of-input p c u y = end-means g
+    level-means (Grammar.and-then a b) p c u y =
+        and-means g (peg a) (peg b) (whole a) (whole b) (still set a) (level g true room d a) (level g true room d b) (level-means a (p .0) (c .0) (u .0) (y .0)) (level-means b (p .1) (c .1) (u .1) (y .1)) (level-keeps g set w room d k a (u .0) (y .0))
+    level-means (Grammar.or-else a b) p c u y =
         or-means g (peg a) (peg b) (still set a) (level g true room d a) (level g true room d b)
-        (of-whole a (level g true room d a) (p .2) (level-means a (p .0) (u .0) (y .0))) (of-whole b (level g true room d b) (p .3) (level-means b (p .1) (u .1) (y .1)))
+        (of-whole a (level g true room d a) (p .2) (level-means a (p .0) (c .0) (u .0) (y .0))) (of-whole b (level g true room d b) (p .3) (level-means b (p .1) (c .1) (u .1) (y .1)))
         (level-keeps g set w room d k a (u .0) (y .0))
-    level-means (Grammar.rule line r e) p u y = counted (peg e) (λ m. Pest.rule g true line r (d e) m) (rule-means g line r (peg e) (d e) (body e (p .0) (p .1) u y))
-    level-means (Grammar.sequence e) p u y = counted (peg e) (λ m. Pest.sequence (d e) m) (sequence-means g (peg e) (whole e) (d e) (h e p u y))
-    level-means (Grammar.repeat e) p u y = counted (Ford.star (peg e)) (λ m. Pest.repeat (suc (length (g .text) - m .position)) (d e) m)
-        (repeat-means g (peg e) (d e) (body e (p .0) (p .1) u (y .1)) (subst (λ (b : Bool). Keeping g b (d e)) (y .0) (k e u (y .1))))
-    level-means (Grammar.optional e) p u y = counted (Ford._or_ (peg e) Ford.ε) (λ m. Pest.optional (d e m)) (optional-means g (peg e) (d e) (body e (p .0) (p .1) u y))
-    level-means (Grammar.lookahead true e) p u y = counted (Ford.not (Ford.not (peg e))) (λ m. Pest.lookahead true (d e) m) (lookahead-means g true (whole e) (peg e) (d e) (h e (p .0) u y))
-    level-means (Grammar.lookahead false e) p u y = counted (Ford.not (peg e)) (λ m. Pest.lookahead false (d e) m) (lookahead-means g false (whole e) (peg e) (d e) (h e (p .0) u y))
-    level-means (Grammar.atomic a e) p u y = counted (peg e) (λ m. Pest.atomic a (d e) m) (atomic-means g a (peg e) (d e) (body e (p .0) (p .1) u y))
-    level-means (Grammar.stack-push line e) p u y = absurd p
-    level-means (Grammar.stack-pop line) p u y = absurd p
-    level-means (Grammar.stack-match-peek-slice i j t) p u y = absurd p
-    level-means (Grammar.stack-match-pop line) p u y = absurd p
-    level-means (Grammar.restore-on-err e) p u y = absurd p
-    level-means (Grammar.tag-node t) p u y = tag-means g t
-    level-means (Grammar.call l) p u y = λ m x.
+    level-means (Grammar.rule line r e) p c u y = counted (peg e) (λ m. Pest.rule g true line r (d e) m) (rule-means g line r (peg e) (d e) (body e (p .0) c (p .1) u y))
+    level-means (Grammar.sequence e) p c u y = counted (peg e) (λ m. Pest.sequence (d e) m) (sequence-means g (peg e) (whole e) (d e) (h e p c u y))
+    level-means (Grammar.repeat e) p c u y = counted (Ford.star (peg e)) (λ m. Pest.repeat (suc (length (g .text) - m .position)) (d e) m)
+        (repeat-means g (peg e) (d e) (body e (p .0) c (p .1) u (y .1)) (subst (λ (b : Bool). Keeping g b (d e)) (y .0) (k e u (y .1))))
+    level-means (Grammar.optional e) p c u y = counted (Ford._or_ (peg e) Ford.ε) (λ m. Pest.optional (d e m)) (optional-means g (peg e) (d e) (body e (p .0) c (p .1) u y))
+    level-means (Grammar.lookahead true e) p c u y = counted (Ford.not (Ford.not (peg e))) (λ m. Pest.lookahead true (d e) m) (lookahead-means g true (whole e) (peg e) (d e) (h e (p .0) c u y))
+    level-means (Grammar.lookahead false e) p c u y = counted (Ford.not (peg e)) (λ m. Pest.lookahead false (d e) m) (lookahead-means g false (whole e) (peg e) (d e) (h e (p .0) c u y))
+    level-means (Grammar.atomic a e) p c u y = counted (peg e) (λ m. Pest.atomic a (d e) m) (atomic-means g a (peg e) (d e) (body e (p .0) c (p .1) u y))
+    level-means (Grammar.stack-push line e) p c u y = absurd p
+    level-means (Grammar.stack-pop line) p c u y = absurd p
+    level-means (Grammar.stack-match-peek-slice i j t) p c u y = absurd p
+    level-means (Grammar.stack-match-pop line) p c u y = absurd p
+    level-means (Grammar.restore-on-err e) p c u y = absurd p
+    level-means (Grammar.tag-node t) p c u y = tag-means g t
+    level-means (Grammar.call l) p c u y = λ m x.
         let r : RuleLine = g .rule-at l in
-        nonterminal-means g l _ (counted (peg (r .body)) (λ n. Pest.rule g true (r .line) (r .rule) (d (r .body)) n) (rule-means g (r .line) (r .rule) (peg (r .body)) (d (r .body)) (body (r .body) (plain l) p (w .literals l) (w .steady l))) m x)
+        nonterminal-means g l _ (counted (peg (r .body)) (λ n. Pest.rule g true (r .line) (r .rule) (d (r .body)) n) (rule-means g (r .line) (r .rule) (peg (r .body)) (d (r .body)) (body (r .body) (v .plain l c) (v .calls l c) (v .no-sequel l c) (w .literals l) (w .steady l))) m x)
 
-  refused-means : (e : Exp) → Plain (g .rule-at) e → Literals e → Steady set e → RecognisesTree e (Pest.no-deeper g true e)
-  refused-means e p u y m x = means-err _ (λ c. cause-set (some LimitKind.Stack) refl c)
+  refused-means : (e : Exp) → Plain e → Calls lines e → Literals e → Steady set e → RecognisesTree e (Pest.no-deeper g true e)
+  refused-means e p c u y m x = means-err _ (λ q. cause-set (some LimitKind.Stack) refl q)
 
   -- At every depth, for every plain tree.
-  pub eval-means : (depth : ℕ) (e : Exp) → Plain (g .rule-at) e → Literals e → Steady set e → RecognisesTree e (eval g true depth e)
-  eval-means zero e p u y = level-means false (Pest.no-deeper g true) refused-means (refused-keeps g set w) e p u y
-  eval-means (suc n) e p u y = level-means true (eval g true n) (eval-means n) (eval-keeps g set w n) e p u y
+  pub eval-means : (depth : ℕ) (e : Exp) → Plain e → Calls lines e → Literals e → Steady set e → RecognisesTree e (eval g true depth e)
+  eval-means zero e p c u y = level-means false (Pest.no-deeper g true) refused-means (refused-keeps g set w) e p c u y
+  eval-means (suc n) e p c u y = level-means true (eval g true n) (eval-means n) (eval-keeps g set w n) e p c u y
 
 -- ── What a run gives ──
 -- A run that ends without a limit cause, and what is left of the text's characters; none where it failed.
@@ -558,19 +564,19 @@ numbered g (Stop (Cause.TokensFull l)) = other-end 14 (omega arith)
 numbered g (Stop (Cause.StackFull l)) = other-end 15 (omega arith)
 numbered g (Stop (Cause.AttemptsFull l)) = other-end 16 (omega arith)
 
-module _ (g : Setting) (set : ℕ → Bool) (w : Tested g set) (plain : (l : ℕ) → Plain (g .rule-at) (g .rule-at l .body)) (u : Utf8 (g .text))
-    (depth : ℕ) (e : Exp) (p : Plain (g .rule-at) e) (y : Literals e) (z : Steady set e) where
+module _ (g : Setting) (set : ℕ → Bool) (w : Tested g set) (lines : ℕ → Type 0) (v : PlainRules g lines) (u : Utf8 (g .text))
+    (depth : ℕ) (e : Exp) (p : Plain e) (c : Calls lines e) (y : Literals e) (z : Steady set e) where
   abbrev run : Ending State
   run = Reading.eval g depth e initial
 
   -- Demand 2, the second half: a match or a failure is what Ford's relation gives on the text's characters ..
   pub ford-at : (o : Option (List ℕ)) → Recognised g run o → Ford (rules-of g) (peg e) (characters-of (g .text)) o
-  ford-at o h = go o _ _ (run-sim g set w u depth e y z) (eval-means g set w plain depth e p y z (Pest.new (g .call-limit)) (initial-fit g u)) h
+  ford-at o h = go o _ _ (run-sim g set w u depth e y z) (eval-means g set w lines v depth e p c y z (Pest.new (g .call-limit)) (initial-fit g u)) h
     where
       go : (o : Option (List ℕ)) (r : Ending State) (m : Ending ParserState) → Sim g top [] (initial .lookahead) (initial .atomicity) (initial .siblings) r m → Means g (peg e) (whole e) 0 none m → Recognised g r o
           → Ford (rules-of g) (peg e) (characters-of (g .text)) o
-      go o r m (sim-ok s q i j) (means-ok n k) (matched t c) = k c .1
-      go o r m (sim-err s q i j) (means-err n k) (failed t c) = k c .1
+      go o r m (sim-ok s q i j) (means-ok n k) (matched t b) = k b .1
+      go o r m (sim-err s q i j) (means-err n k) (failed t b) = k b .1
 
   -- .. and nothing else is.
   pub ford-only : (o : Option (List ℕ)) → Recognised g run o → (o′ : Option (List ℕ)) → Ford (rules-of g) (peg e) (characters-of (g .text)) o′ → o′ ≡ o
