@@ -25,3 +25,7 @@ pub mod Climbs
 pub mod EdgeLaws
 pub mod GrammarLaws
 pub mod RefusalLaws
+pub mod FordLaws
+pub mod CharacterLaws
+pub mod Plain
+pub mod Recognition
