@@ -2,4 +2,5 @@ pub mod Field
 pub mod Numeral
 pub mod Area
 pub mod Sheet
+pub mod Listing
 pub mod Answers
