@@ -131,3 +131,28 @@ impl Reader<'_> {
         }
     }
 }
+
+#[cfg(test)]
+mod tests {
+    use super::Shown;
+
+    #[test]
+    fn reads_what_debug_shows() {
+        #[derive(Debug)]
+        #[allow(dead_code)]
+        struct S<'a> {
+            list: Vec<(u32, Option<&'a str>)>,
+            range: std::ops::Range<u32>,
+            empty: Vec<u32>,
+        }
+        let text = "\"}], [\\";
+        let s = S { list: vec![(1, Some(text)), (2, None)], range: 3..4, empty: vec![] };
+        let shown = Shown::read(&format!("{s:?}"));
+        assert_eq!(shown.field("list").items().len(), 2);
+        assert_eq!(shown.field("list").items()[1].items()[0].number(), 2);
+        assert_eq!(shown.field("range").word(), "3..4");
+        assert_eq!(shown.field("empty").numbers(), []);
+        let tag = &shown.field("list").items()[0].items()[1].items()[0];
+        assert_eq!(*tag, Shown::Text(format!("{text:?}")));
+    }
+}
