@@ -196,3 +196,24 @@ impl Reader<'_> {
         bytes
     }
 }
+
+#[cfg(test)]
+mod tests {
+    use super::*;
+
+    #[test]
+    fn a_record_is_read_as_it_was_written() {
+        let nodes = [[3, -1, i32::MIN, 0x8000], [16, -32_768, -32_767, 32_767]];
+        let case = Case {
+            call_limit: u32::MAX,
+            text: [b"b".as_slice(), &[b'a'; 65_536]].concat(),
+            ..Case::new(&nodes, "aé", "")
+        };
+        let outcome = Outcome { number: 10, place: 65_535, count: 3 };
+        let (positives, negatives) = (vec![1, 65_535], vec![7]);
+        let record = Record { case, outcome, tokens: vec![], positives, negatives };
+        let file = [record.encode(1), record.encode(2)].concat();
+        assert!(file.len() < 200);
+        assert_eq!(Record::decode_all(&file), [record.clone(), record]);
+    }
+}

@@ -160,5 +160,5 @@ pub fn debt(letters: usize) -> Case {
         [6, 11, 16, 0], // 17
         [8, 7, 17, 0],  // 18
     ]);
-    Case { tokens: 400, ..Case::new(&nodes, "a", &"a".repeat(letters)) }
+    Case::new(&nodes, "a", &"a".repeat(letters))
 }

@@ -319,3 +319,34 @@ fn final_of(ok: bool, last: &oracle::Final, call_limit: u32) -> watch::Final {
 fn different<T>(what: &str, one: &dyn fmt::Debug, other: &dyn fmt::Debug) -> Result<T, Difference> {
     Err(Difference(format!("{what}:\n  {one:?}\n  {other:?}")))
 }
+
+#[cfg(test)]
+mod tests {
+    use super::*;
+    use crate::rng::Rng;
+    use crate::{boundary, random, stack};
+
+    #[test]
+    fn boundary_cases_give_the_documents_numbers() {
+        stack::with_large_stack(|| {
+            let mut judge = Judge::new(Vec::new());
+            judge.steps = 100_000_000;
+            for (case, expected) in boundary::cases() {
+                let outcome = judge.judge(&case, None).unwrap_or_else(|e| panic!("{e}\n{case}"));
+                assert_eq!(outcome.map(|outcome| outcome.number), Some(expected), "{case}");
+            }
+        });
+    }
+
+    #[test]
+    fn random_cases_show_no_difference() {
+        stack::with_large_stack(|| {
+            let mut judge = Judge::new(Vec::new());
+            let mut rng = Rng::new(7);
+            for _ in 0..5_000 {
+                let case = random::case(&mut rng, 24);
+                judge.judge(&case, None).unwrap_or_else(|e| panic!("{e}\n{case}"));
+            }
+        });
+    }
+}

@@ -10,6 +10,7 @@ pub mod exhaustive;
 pub mod grammars;
 pub mod judge;
 pub mod minimise;
+pub mod probe;
 pub mod random;
 pub mod rng;
 pub mod sample;

@@ -1,133 +1,123 @@
 //! pest's state is private; `ParserState` derives `Debug`, which shows all of it. This reads what
-//! is shown.
+//! is shown, part by part.
 
 /// A value in the form that `#[derive(Debug)]` gives it.
-#[derive(Clone, Debug, Eq, PartialEq)]
-pub enum Shown {
-    /// A number, a unit variant, a range: whatever holds no other value.
-    Word(String),
-    Text(String),
-    List(Vec<Shown>),
-    /// Name (empty for a plain tuple) and values.
-    Tuple(String, Vec<Shown>),
-    Struct(String, Vec<(String, Shown)>),
-}
+#[derive(Clone, Copy, Debug, Eq, PartialEq)]
+pub struct Shown<'s>(&'s str);
 
-impl Shown {
-    pub fn read(shown: &str) -> Shown {
-        let mut reader = Reader { rest: shown };
-        let value = reader.value();
-        assert!(reader.rest.is_empty(), "left over: {}", reader.rest);
-        value
+impl<'s> Shown<'s> {
+    pub fn new(shown: &'s str) -> Shown<'s> {
+        Shown(shown)
     }
 
     /// The field of that name. Panics if there is none: then pest is not the pest we know.
-    pub fn field(&self, name: &str) -> &Shown {
-        match self {
-            Shown::Struct(_, fields) => fields
-                .iter()
-                .find(|(field, _)| field == name)
-                .map(|(_, value)| value)
-                .unwrap_or_else(|| panic!("no field {name}")),
-            other => panic!("no struct: {other:?}"),
-        }
+    pub fn field(self, name: &str) -> Shown<'s> {
+        self.inside(" { ", " }")
+            .find_map(|part| part.strip_prefix(name)?.strip_prefix(": "))
+            .map(Shown)
+            .unwrap_or_else(|| panic!("no field {name} in {self:?}"))
     }
 
-    pub fn items(&self) -> &[Shown] {
-        match self {
-            Shown::List(items) | Shown::Tuple(_, items) => items,
-            other => panic!("no list: {other:?}"),
-        }
+    /// The items of a list, or of a tuple, named or not.
+    pub fn items(self) -> impl Iterator<Item = Shown<'s>> {
+        let (open, close) = if self.0.starts_with('[') { ("[", "]") } else { ("(", ")") };
+        self.inside(open, close).map(Shown)
     }
 
-    pub fn word(&self) -> &str {
-        match self {
-            Shown::Word(word) => word,
-            other => panic!("no word: {other:?}"),
-        }
+    pub fn first(self) -> Shown<'s> {
+        self.items().next().unwrap_or_else(|| panic!("no item in {self:?}"))
     }
 
-    pub fn number(&self) -> u32 {
-        self.word().parse().expect("a number")
+    pub fn count(self) -> usize {
+        self.items().count()
     }
 
-    pub fn numbers(&self) -> Vec<u32> {
-        self.items().iter().map(Shown::number).collect()
+    /// As it stands.
+    pub fn word(self) -> &'s str {
+        self.0
+    }
+
+    pub fn number(self) -> u32 {
+        self.0.parse().unwrap_or_else(|_| panic!("no number: {self:?}"))
+    }
+
+    pub fn numbers(self) -> Vec<u32> {
+        self.items().map(Shown::number).collect()
+    }
+
+    /// What stands between the first `open` and the last `close`, cut at its commas.
+    fn inside(self, open: &str, close: &str) -> Parts<'s> {
+        let rest = self
+            .0
+            .split_once(open)
+            .and_then(|(_, rest)| rest.strip_suffix(close))
+            .unwrap_or_else(|| panic!("no {open}..{close}: {self:?}"));
+        Parts { rest }
     }
 }
 
-struct Reader<'s> {
+/// Cuts at each comma that no bracket and no text holds.
+struct Parts<'s> {
     rest: &'s str,
 }
 
-impl Reader<'_> {
-    fn value(&mut self) -> Shown {
-        if self.eat("[") {
-            return Shown::List(self.values("]"));
-        }
-        if self.rest.starts_with('"') {
-            return Shown::Text(self.text());
-        }
-        let name = self.word();
-        if self.eat("(") {
-            Shown::Tuple(name, self.values(")"))
-        } else if self.eat(" { ") {
-            Shown::Struct(name, self.fields())
-        } else {
-            Shown::Word(name)
-        }
-    }
+impl<'s> Iterator for Parts<'s> {
+    type Item = &'s str;
 
-    fn values(&mut self, close: &str) -> Vec<Shown> {
-        let mut values = Vec::new();
-        while !self.eat(close) {
-            values.push(self.value());
-            self.eat(", ");
+    fn next(&mut self) -> Option<&'s str> {
+        if self.rest.is_empty() {
+            return None;
         }
-        values
+        let end = first_comma(self.rest.as_bytes()).unwrap_or(self.rest.len());
+        let (part, rest) = self.rest.split_at(end);
+        self.rest = rest.strip_prefix(", ").unwrap_or(rest);
+        Some(part)
     }
+}
 
-    fn fields(&mut self) -> Vec<(String, Shown)> {
-        let mut fields = Vec::new();
-        while !self.eat(" }") {
-            let name = self.word();
-            assert!(self.eat(": "), "a field's value: {}", self.rest);
-            fields.push((name, self.value()));
-            self.eat(", ");
+fn first_comma(shown: &[u8]) -> Option<usize> {
+    let mut depth = 0;
+    let mut in_text = false;
+    let mut at = 0;
+    while at < shown.len() {
+        match shown[at] {
+            b'\\' if in_text => at += 1,
+            b'"' => in_text = !in_text,
+            _ if in_text => {}
+            b'[' | b'(' | b'{' => depth += 1,
+            b']' | b')' | b'}' => depth -= 1,
+            b',' if depth == 0 => return Some(at),
+            _ => {}
         }
-        fields
+        at += 1;
     }
+    None
+}
 
-    fn word(&mut self) -> String {
-        let end = self.rest.find(|c| "[](){}:, \"".contains(c)).unwrap_or(self.rest.len());
-        self.take(end).to_owned()
-    }
+#[cfg(test)]
+mod tests {
+    use super::Shown;
 
-    /// A text with its quotes and escapes, as it stands.
-    fn text(&mut self) -> String {
-        let mut escaped = false;
-        for (at, c) in self.rest.char_indices().skip(1) {
-            if c == '"' && !escaped {
-                return self.take(at + 1).to_owned();
-            }
-            escaped = c == '\\' && !escaped;
+    #[test]
+    fn reads_what_debug_shows() {
+        #[derive(Debug)]
+        #[allow(dead_code)]
+        struct S<'a> {
+            list: Vec<(u32, Option<&'a str>)>,
+            range: std::ops::Range<u32>,
+            empty: Vec<u32>,
         }
-        panic!("an open text: {}", self.rest)
-    }
-
-    fn take(&mut self, length: usize) -> &str {
-        let (taken, rest) = self.rest.split_at(length);
-        self.rest = rest;
-        taken
-    }
-
-    fn eat(&mut self, token: &str) -> bool {
-        match self.rest.strip_prefix(token) {
-            Some(rest) => {
-                self.rest = rest;
-                true
-            }
-            None => false,
-        }
+        let text = "\"}], [\\";
+        let s = S { list: vec![(1, Some(text)), (2, None)], range: 3..4, empty: vec![] };
+        let shown = format!("{s:?}");
+        let shown = Shown::new(&shown);
+        assert_eq!(shown.field("list").count(), 2);
+        let second: Vec<_> = shown.field("list").items().nth(1).unwrap().items().collect();
+        assert_eq!(second[0].number(), 2);
+        assert_eq!(second[1].word(), "None");
+        assert_eq!(shown.field("range").word(), "3..4");
+        assert_eq!(shown.field("empty").numbers(), []);
+        let tag = shown.field("list").first().items().nth(1).unwrap().first();
+        assert_eq!(tag.word(), format!("{text:?}"));
     }
 }

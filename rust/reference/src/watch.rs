@@ -71,37 +71,35 @@ struct Within {
 
 impl Watch for Within {
     fn rule_entered(&self, line: usize, state: &ParserState<'_, Rule>) {
-        let state = look(state);
-        stop_if(held(&state, "queue") > self.capacities.tokens, 14, line);
+        let shown = format!("{state:?}");
+        stop_if(held(Shown::new(&shown), "queue") > self.capacities.tokens, 14, line);
     }
 
     fn popping(&self, line: usize, state: &ParserState<'_, Rule>) {
-        let state = look(state);
-        stop_if(held(state.field("stack"), "cache") == 0, 13, line);
+        let shown = format!("{state:?}");
+        stop_if(held(Shown::new(&shown).field("stack"), "cache") == 0, 13, line);
     }
 
     fn left(&self, line: usize, state: &ParserState<'_, Rule>) {
-        let state = look(state);
+        let shown = format!("{state:?}");
+        let state = Shown::new(&shown);
         let stack = state.field("stack");
-        stop_if(held(&state, "queue") > self.capacities.tokens, 14, line);
+        stop_if(held(state, "queue") > self.capacities.tokens, 14, line);
         stop_if(held(stack, "cache") > self.capacities.entries, 15, line);
         // pest keeps just the elements that an open checkpoint may ask back: the total debt.
         stop_if(held(stack, "popped") > self.capacities.debt, 15, line);
-        stop_if(held(&state, "pos_attempts") > self.capacities.attempts, 16, line);
-        stop_if(held(&state, "neg_attempts") > self.capacities.attempts, 16, line);
+        stop_if(held(state, "pos_attempts") > self.capacities.attempts, 16, line);
+        stop_if(held(state, "neg_attempts") > self.capacities.attempts, 16, line);
     }
 
     fn ended(&self, ok: bool, state: &ParserState<'_, Rule>) {
-        *self.last.borrow_mut() = Some(last(ok, &look(state)));
+        let shown = format!("{state:?}");
+        *self.last.borrow_mut() = Some(last(ok, Shown::new(&shown)));
     }
 }
 
-fn look(state: &ParserState<'_, Rule>) -> Shown {
-    Shown::read(&format!("{state:?}"))
-}
-
-fn held(shown: &Shown, list: &str) -> usize {
-    shown.field(list).items().len()
+fn held(shown: Shown<'_>, list: &str) -> usize {
+    shown.field(list).count()
 }
 
 /// Leaves the run for good: what pest would do next is no part of it. No panic is reported.
@@ -111,12 +109,12 @@ fn stop_if(full: bool, number: u32, line: usize) {
     }
 }
 
-fn last(ok: bool, state: &Shown) -> Final {
+fn last(ok: bool, state: Shown<'_>) -> Final {
     let stack = state.field("stack");
     Final {
         ok,
         position: state.field("position").field("pos").number(),
-        stack: stack.field("cache").items().iter().map(span).collect(),
+        stack: stack.field("cache").items().map(span).collect(),
         positives: state.field("pos_attempts").numbers(),
         negatives: state.field("neg_attempts").numbers(),
         furthest: state.field("attempt_pos").number(),
@@ -129,16 +127,13 @@ fn last(ok: bool, state: &Shown) -> Final {
 }
 
 /// `Span(Span { str: .., range: 0..1 })`
-fn span(entry: &Shown) -> (u32, u32) {
-    let range = entry.items()[0].field("range").word();
+fn span(entry: Shown<'_>) -> (u32, u32) {
+    let range = entry.first().field("range").word();
     let (start, end) = range.split_once("..").expect("a range");
     (start.parse().expect("a start"), end.parse().expect("an end"))
 }
 
 /// `None` or `Some((current, limit))`
-fn calls(shown: &Shown) -> Option<u32> {
-    match shown {
-        Shown::Word(_) => None,
-        some => Some(some.items()[0].items()[0].number()),
-    }
+fn calls(shown: Shown<'_>) -> Option<u32> {
+    (shown.word() != "None").then(|| shown.first().first().number())
 }

@@ -16,7 +16,7 @@ use compare::case::{Areas, Case, FILL};
 use compare::contender::contenders;
 use compare::judge::{laid_out, Judge};
 use compare::rng::Rng;
-use compare::{boundary, damage, exhaustive, random, stack};
+use compare::{boundary, damage, exhaustive, probe, random, stack};
 use reference::Sheet;
 
 const LONGEST_TEXT: usize = 40;
@@ -27,14 +27,14 @@ const MOST_BOUNDARY_NUMBERS: usize = 20_000;
 
 /// How many answers of each number are wanted beside the fixed cases.
 const WANTED: [(u32, usize); 13] = [
-    (0, 800),
+    (0, 900),
     (4, 40),
     (5, 150),
     (6, 80),
     (7, 40),
     (8, 20),
     (9, 30),
-    (10, 600),
+    (10, 900),
     (11, 150),
     (12, 150),
     (13, 150),
@@ -80,6 +80,7 @@ fn make(seed: u64, out: &Path) {
     let fits = |case: &Case| case.tokens <= MOST_BOUNDARY_NUMBERS && is_plain(&case.text);
     let boundary = boundary::cases().into_iter().map(|(case, _)| case).filter(fits);
     boundary.for_each(|case| list.take(case));
+    list.judge.steps = 100_000;
     table_cases().into_iter().for_each(|case| list.take(case));
     attempts_cases().into_iter().for_each(|case| list.take(case));
     let mut rng = Rng::new(seed);
@@ -237,7 +238,8 @@ fn fill(rng: &mut Rng, list: &mut List, number: u32, wanted: usize) {
 fn draw(rng: &mut Rng, number: u32) -> Option<Case> {
     let mut case = match rng.below(4) {
         0 => small(rng),
-        _ => random::case(rng, 14),
+        1 => random::case(rng, 14),
+        _ => probe::case(rng),
     };
     match number {
         4..=9 => case = damage::damage(rng, case),
@@ -332,6 +334,7 @@ fn replay(folder: &Path) -> ExitCode {
         let file = fs::read(&path).expect("a file");
         let records = Record::decode_all(&file);
         println!("{}: {} bytes, {} answers", path.display(), file.len(), records.len());
+        println!("  {}", longest(&records));
         for record in records {
             numbers[record.outcome.number as usize] += 1;
             count_kinds(&record.case, &mut kinds);
@@ -348,6 +351,22 @@ fn replay(folder: &Path) -> ExitCode {
         0 => ExitCode::SUCCESS,
         _ => ExitCode::FAILURE,
     }
+}
+
+/// What a program that replays the file has to have room for.
+fn longest(records: &[Record]) -> String {
+    let most = |length: fn(&Case) -> usize| {
+        records.iter().map(|record| length(&record.case)).max().unwrap_or(0)
+    };
+    format!(
+        "longest: {} node numbers, {} literal bytes, {} text bytes; tokens {}, report {}, scratch {}",
+        most(|case| case.nodes.len()),
+        most(|case| case.literals.len()),
+        most(|case| case.text.len()),
+        most(|case| case.tokens),
+        most(|case| case.report),
+        most(|case| case.scratch),
+    )
 }
 
 fn count_kinds(case: &Case, kinds: &mut [u32; 21]) {

@@ -1,6 +1,7 @@
 //! Compares pest with the oracle, and both with every contender that is linked in.
 //!
-//! compare [--seed N] [--random N] [--damaged N] [--lines N] [--letters N] [--length N] [--watch N]
+//! compare [--seed N] [--random N] [--damaged N] [--lines N] [--letters N] [--length N]
+//!         [--settings N] [--watch N]
 //!
 //! Ends with status 1 at the first difference, after printing it minimised.
 
@@ -11,7 +12,7 @@ use compare::case::Case;
 use compare::contender::contenders;
 use compare::judge::{Difference, Judge, Tally};
 use compare::rng::Rng;
-use compare::{boundary, damage, exhaustive, minimise, random, stack};
+use compare::{boundary, damage, exhaustive, minimise, probe, random, stack};
 
 struct Options {
     seed: u64,
@@ -20,6 +21,8 @@ struct Options {
     lines: usize,
     letters: usize,
     length: usize,
+    /// So many of the exhaustive comparison's settings.
+    settings: usize,
     /// One case in so many is also watched within small capacities; 0 means none.
     watch: usize,
 }
@@ -33,6 +36,7 @@ impl Options {
             lines: 3,
             letters: 3,
             length: 3,
+            settings: exhaustive::SETTINGS.len(),
             watch: 16,
         };
         let mut arguments = std::env::args().skip(1);
@@ -48,6 +52,7 @@ impl Options {
                 "--lines" => options.lines = value as usize,
                 "--letters" => options.letters = value as usize,
                 "--length" => options.length = value as usize,
+                "--settings" => options.settings = value as usize,
                 "--watch" => options.watch = value as usize,
                 other => panic!("no such option: {other}"),
             }
@@ -109,7 +114,7 @@ fn exhaustive_cases(judge: &mut Judge, options: &Options, lines: usize) -> Resul
     let mut rng = Rng::new(options.seed);
     exhaustive::sheets(lines as i32, &mut |nodes| {
         for text in &texts {
-            for setting in exhaustive::SETTINGS {
+            for setting in exhaustive::SETTINGS.into_iter().take(options.settings) {
                 let case = exhaustive::case(nodes, text, setting);
                 let small = small(&mut rng, options.watch);
                 let outcome = check(judge, &case, small)?;
@@ -126,8 +131,11 @@ fn exhaustive_cases(judge: &mut Judge, options: &Options, lines: usize) -> Resul
 fn random_cases(judge: &mut Judge, options: &Options) -> Result<(), ()> {
     let mut rng = Rng::new(options.seed);
     for at in 0..options.random {
-        let most_lines = if at % 8 == 0 { 48 } else { 24 };
-        let case = random::case(&mut rng, most_lines);
+        let case = match at % 8 {
+            0 => random::case(&mut rng, 48),
+            1 | 2 => probe::case(&mut rng),
+            _ => random::case(&mut rng, 24),
+        };
         let small = small(&mut rng, options.watch);
         check(judge, &case, small)?;
     }
