@@ -5,3 +5,7 @@ pub mod Regions
 pub mod Moves
 pub mod StackSteps
 pub mod SoundLaws
+pub mod Matching
+pub mod Slices
+pub mod IndexLaws
+pub mod PopMatch

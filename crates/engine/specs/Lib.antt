@@ -11,3 +11,4 @@ pub mod Areas
 pub mod Pairs
 pub mod Bounded
 pub mod Sound
+pub mod StackMatch

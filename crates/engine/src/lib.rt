@@ -4,4 +4,5 @@ pub mod attempts;
 pub mod call_limit_tracker;
 pub mod parser_state;
 pub mod stack;
+pub mod stack_match;
 pub mod state;
