@@ -29,3 +29,7 @@ pub mod FordLaws
 pub mod CharacterLaws
 pub mod Plain
 pub mod Recognition
+pub mod Matching
+pub mod Slices
+pub mod IndexLaws
+pub mod PopMatch

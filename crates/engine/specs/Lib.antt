@@ -20,3 +20,4 @@ pub mod Report
 pub mod Evaluation
 pub mod Spine
 pub mod Refusals
+pub mod StackMatch

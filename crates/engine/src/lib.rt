@@ -10,4 +10,5 @@ pub mod parser_state;
 pub mod queueable_token;
 pub mod spine;
 pub mod stack;
+pub mod stack_match;
 pub mod state;
