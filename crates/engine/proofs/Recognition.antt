@@ -11,13 +11,13 @@ use lib.ListN.{length, take, drop, set, getD, length-drop}
 use lib.Seq.{drop-drop}
 use lib.Dec.{eqb, ltb, leb}
 use borrow.Author.Tests.{eqb-true, eqb-false, le-leb}
-use Rattle.matching.specs.Utf8.{Utf8, utf8-end, utf8-next, decode, within, characters}
+use Rattle.matching.specs.Utf8.{Utf8, utf8-end, utf8-next, Edge, decode, within, characters}
 use Rattle.matching.specs.Position as Position
 use Rattle.matching.specs.Position.{starts-by, same-folded, match-by, match-char-by, past}
 use Rattle.matching.proofs.Lead.{decode-nil}
 use Rattle.matching.proofs.Forward.{char-size}
 use Rattle.matching.proofs.Characters.{then-skip}
-use Rattle.matching.proofs.Edges.{Edge, Lands, lands, lands-not, char-lands}
+use Rattle.matching.proofs.Edges.{Lands, lands, lands-not, char-lands}
 use Rattle.engine.specs.declared.parser_state.Lookahead.{Lookahead}
 use Rattle.engine.specs.declared.parser_state.Atomicity.{Atomicity}
 use Rattle.engine.specs.declared.parser_state.Cause.{Cause}
@@ -39,7 +39,8 @@ use Rattle.engine.proofs.FordLaws.{ford-unique, ford-suffix, star-left}
 use Rattle.engine.proofs.Plain.{Calls, whole, Plain}
 use Rattle.engine.proofs.CharacterLaws.{Ascii, eqb-ascii, folded-ascii, Compared, alike, unlike, compared, characters-of, all-characters, of-nil, of-next, Begins, no-character, a-character, begins}
 use Rattle.engine.proofs.Matchers.{string-same, folded-same, range-same, skip-same}
-use Rattle.engine.proofs.Invariant.{Fit, keeps-ok, keeps-err, KeepsFrom, Keeping, Tested, checkpoint-fit, pushed-fit, level-keeps, eval-keeps, refused-keeps}
+use Rattle.engine.specs.Fit.{Fit}
+use Rattle.engine.proofs.Invariant.{keeps-ok, keeps-err, KeepsFrom, Keeping, Tested, checkpoint-fit, pushed-fit, level-keeps, eval-keeps, refused-keeps}
 use Rattle.engine.proofs.QueueLaws.{top}
 use Rattle.engine.proofs.Simulation.{Sim, sim-ok, sim-err}
 use Rattle.engine.proofs.Agree.{initial-fit, run-sim}
@@ -565,15 +566,18 @@ numbered g (Stop (Cause.StackFull l)) = other-end 15 (omega arith)
 numbered g (Stop (Cause.AttemptsFull l)) = other-end 16 (omega arith)
 
 module _ (g : Setting) (set : ℕ → Bool) (w : Tested g set) (lines : ℕ → Type 0) (v : PlainRules g lines) (u : Utf8 (g .text))
-    (depth : ℕ) (e : Exp) (p : Plain e) (c : Calls lines e) (y : Literals e) (z : Steady set e) where
+    (depth limit : ℕ) (e : Exp) (p : Plain e) (c : Calls lines e) (y : Literals e) (z : Steady set e) where
   abbrev run : Ending State
-  run = Reading.eval g depth e initial
+  run = Reading.eval g depth e (initial limit)
 
   -- Demand 2, the second half: a match or a failure is what Ford's relation gives on the text's characters ..
   pub ford-at : (o : Option (List ℕ)) → Recognised g run o → Ford (rules-of g) (peg e) (characters-of (g .text)) o
-  ford-at o h = go o _ _ (run-sim g set w u depth e y z) (eval-means g set w lines v depth e p c y z (Pest.new (g .call-limit)) (initial-fit g u)) h
+  ford-at o h = go o _ _ (run-sim g set w u depth limit e y z) (eval-means g set w lines v depth e p c y z (Pest.new limit) first-fit) h
     where
-      go : (o : Option (List ℕ)) (r : Ending State) (m : Ending ParserState) → Sim g top [] (initial .lookahead) (initial .atomicity) (initial .siblings) r m → Means g (peg e) (whole e) 0 none m → Recognised g r o
+      first-fit : Fit g (Pest.new limit)
+      first-fit = initial-fit g limit u
+
+      go : (o : Option (List ℕ)) (r : Ending State) (m : Ending ParserState) → Sim top [] (initial limit .lookahead) (initial limit .atomicity) (initial limit .siblings) r m → Means g (peg e) (whole e) 0 none m → Recognised g r o
           → Ford (rules-of g) (peg e) (characters-of (g .text)) o
       go o r m (sim-ok s q i j) (means-ok n k) (matched t b) = k b .1
       go o r m (sim-err s q i j) (means-err n k) (failed t b) = k b .1
