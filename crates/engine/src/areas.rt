@@ -6,13 +6,18 @@ ghost use Rattle.engine.specs.Pairs.{pair, put, copied};
 
 // Where each region of scratch starts: 128 entries, 1,024 popped entries, 256 and 256 attempts, 1,024 checkpoints.
 pub const ENTRIES_AT: usize = 0;
+
 pub const POPPED_AT: usize = 256;
+
 pub const POSITIVES_AT: usize = 2304;
+
 pub const NEGATIVES_AT: usize = 2560;
+
 pub const LENGTHS_AT: usize = 2816;
 
 // How many entries, and how many popped entries, there is room for.
 pub const MOST_ENTRIES: usize = 128;
+
 pub const MOST_DEBT: usize = 1024;
 
 pub struct Pair {

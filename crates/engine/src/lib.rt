@@ -5,4 +5,5 @@ pub mod call_limit_tracker;
 pub mod parser_state;
 pub mod stack;
 pub mod stack_match;
+pub mod stack_state;
 pub mod state;

@@ -50,14 +50,14 @@ sub-drain : tie.Need-sub-drain
 sub-drain c = let i = c .before .before .before .before .before .before .before .before .before .before .before .before .before .before in let t = top-is (i .args .scratch .now) (i .args .s) (i .pre) (c .before .before .before .before .before .before .before .before .before .before .before .before .if1 .left) _ (c .before .before .before .before .before .before .before .before .before .before .pair-at .ensures) in omega arith
 
 sub-drain-2 : tie.Need-sub-drain-2
-sub-drain-2 c = 
+sub-drain-2 c =
     let i = c .before .before .before .before .before .before .before .before .before .before .before .before .before .before in
     let t = top-is (i .args .scratch .now) (i .args .s) (i .pre) (c .before .before .before .before .before .before .before .before .before .before .before .before .if1 .left) _ (c .before .before .before .before .before .before .before .before .before .before .pair-at .ensures) in
     let u = outer-top (i .args .scratch .now) (i .args .s) (i .pre) (c .before .before .before .before .before .before .before .before .before .before .before .before .if1 .left) _ (c .before .before .before .before .before .before .before .before .before .before .pair-at .ensures) (c .before .before .before .before .before .before .before .before .if2 .left) _ (c .before .before .before .before .before .before .pair-at2 .ensures) in
     omega arith
 
 drain-requires : tie.Need-drain-requires
-drain-requires c κs = 
+drain-requires c κs =
     let i = c .before .before .before .before .before .before .before .before .before .before .before .before .before .before in
     let t = top-is (i .args .scratch .now) (i .args .s) (i .pre) (c .before .before .before .before .before .before .before .before .before .before .before .before .if1 .left) _ (c .before .before .before .before .before .before .before .before .before .before .pair-at .ensures) in
     let u = outer-top (i .args .scratch .now) (i .args .s) (i .pre) (c .before .before .before .before .before .before .before .before .before .before .before .before .if1 .left) _ (c .before .before .before .before .before .before .before .before .before .before .pair-at .ensures) (c .before .before .before .before .before .before .before .before .if2 .left) _ (c .before .before .before .before .before .before .pair-at2 .ensures) in
