@@ -33,3 +33,4 @@ pub mod Matching
 pub mod Slices
 pub mod IndexLaws
 pub mod PopMatch
+pub mod StateSteps

@@ -11,4 +11,5 @@ pub mod queueable_token;
 pub mod spine;
 pub mod stack;
 pub mod stack_match;
+pub mod stack_state;
 pub mod state;

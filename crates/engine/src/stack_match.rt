@@ -1,4 +1,4 @@
-// The combinators of pest's parser_state.rs that match the text of stack entries: document 01's kinds 14 to 17.
+// Matching the text of stack entries, as pest's parser_state.rs does it for document 01's kinds 15 to 17.
 use crate::areas::ENTRIES_AT;
 use crate::areas::pair_at;
 use crate::stack::Popped;
@@ -57,7 +57,7 @@ pub fn normalize_index(i: i32, len: usize) -> Index
 }
 
 // Field c of kind 16: "0 bottom up, 1 top down; 2, 3 the same without end".
-fn normalize_end(i: i32, c: usize, len: usize) -> Index
+pub fn normalize_end(i: i32, c: usize, len: usize) -> Index
     ensures { λ r. ⌜ r ≡ index-of (normalize-end (if ltb c 2 then some i else none) len) ⌝ }
 {
     if c < 2 {
@@ -67,7 +67,7 @@ fn normalize_end(i: i32, c: usize, len: usize) -> Index
     }
 }
 
-fn is_top_down(c: usize) -> bool
+pub fn is_top_down(c: usize) -> bool
     ensures { λ r. ⌜ r ≡ (eqb c 1 || eqb c 3) ⌝ }
 {
     if c == 1 {
@@ -103,7 +103,15 @@ fn next_entry(low: usize, high: usize, down: bool) -> Next
 }
 
 // Matches the entries from `start` to before `end`, in either direction: all, or it fails.
-pub fn match_slice(text: &[u8], scratch: &[u32], s: Stack, pos: BytePosition, start: usize, end: usize, down: bool) -> Matched
+pub fn match_slice(
+    text: &[u8],
+    scratch: &[u32],
+    s: Stack,
+    pos: BytePosition,
+    start: usize,
+    end: usize,
+    down: bool,
+) -> Matched
     requires { ⌜ StackReady (now scratch) s × (end ≤ s .height) ⌝ }
     ensures { λ r. ⌜ r ≡ matched (all-match (now (text .entry)) (slice start end down (stack-of (now (scratch .entry)) s .cache)) (pos .0)) ⌝ }
 {

@@ -18,7 +18,7 @@ next-entry-requires : tie.Need-next-entry-requires Inv-loop μ-loop
 next-entry-requires c κs = search needs
 
 entry-requires : tie.Need-entry-requires Inv-loop μ-loop
-entry-requires c κs = 
+entry-requires c κs =
     let i = c .before .before .before .before .before in
     let l = c .before .before .loop in
     let n = next-inside (i .args .scratch .now) (l .low) (l .high) (l .high) (c .before .loop-test .taken) (omega arith) (i .args .down) _ (c .next-entry .ensures) in
@@ -37,7 +37,7 @@ returns : tie.Need-returns Inv-loop μ-loop
 returns c = let i = c .before .before .before .before .before .before .before .before .before in left-fails _ _ _ _ _ _ _ _ _ (c .before .before .before .before .before .before .loop .inv) (c .before .before .before .before .before .loop-test .taken) _ (c .before .before .before .before .next-entry .ensures) _ (c .before .before .before .entry .ensures) _ (c .before .before .match-string .ensures) (i .args .s .height) (i .pre .1) (c .enum-told .given .1)
 
 loop-less : tie.Need-loop-less Inv-loop μ-loop
-loop-less c = 
+loop-less c =
     let i = c .before .before .before .before .before .before .before .before .before .before in
     let l = c .before .before .before .before .before .before .before .loop in
     let n = next-inside (i .args .scratch .now) (l .low) (l .high) (l .high) (c .before .before .before .before .before .before .loop-test .taken) (omega arith) (i .args .down) _ (c .before .before .before .before .before .next-entry .ensures) in
