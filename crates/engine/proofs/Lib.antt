@@ -6,3 +6,4 @@ pub mod AreaLaws
 pub mod TokenLaws
 pub mod AttemptLaws
 pub mod ReportLaws
+pub mod RuleLaws

@@ -12,3 +12,4 @@ pub mod Entry
 pub mod Tokens
 pub mod Attempts
 pub mod Report
+pub mod Rule
