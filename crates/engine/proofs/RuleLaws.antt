@@ -22,7 +22,7 @@ use Rattle.engine.specs.Reading.{Setting, most-attempts}
 use Rattle.engine.specs.Pest as Pest
 use Rattle.engine.specs.Pest.{ParserState, QueueableToken, Start, End, produces, with-end, set-queue, push-token, tracking, close-rule, tag-last, tag-node}
 use Rattle.engine.specs.Areas.{Outside, view, queue-of, stack-of, span, checkpoint, positives-at, lengths-at, entries-at, popped-at}
-use Rattle.engine.specs.Attempts.{Tried, tried, tried-of, with-tried, tracked, Track, kept, full, within}
+use Rattle.engine.specs.Attempts.{Tried, tried, tried-of, with-tried, noted, tracked, Track, kept, full, within}
 use Rattle.engine.specs.Tokens.{Written, Patched, Paired, Pushed}
 use Rattle.engine.specs.Rule.{starting, dropped}
 use Rattle.engine.proofs.AreaLaws.{outside-refl, outside-trans, outside-wider, same-below, same-above, pairs-same}
@@ -178,31 +178,26 @@ module _ (g : Setting) (due : Bool) (line r p : ℕ) (n : Noted) (m : ParserStat
       ∙ when-true (due && not (is-atomic (m .atomicity))) (Ok m) (now-tracked line after) (rw (d, f))
 
 -- ── `rule` is its leaves ──
--- a step that ends Ok, and what follows
-push-then : (g : Setting) (line : ℕ) (t : QueueableToken) (m : ParserState) (k : ParserState → Ending ParserState)
-    → push-token g true line t m k ≡ on-ok (push-token g true line t m (λ s. Ok s)) k
-push-then g line t m k = go (leb (g .capacity) (length (m .queue)))
-  where
-    go : (b : Bool) → stop-if b (TokensFull line) (λ _. k (set-queue (m .queue ++ (t ∷ [])) m)) ≡ on-ok (stop-if b (TokensFull line) (λ _. Ok (set-queue (m .queue ++ (t ∷ [])) m))) k
-    go true = refl
-    go false = refl
-
 module _ (g : Setting) (line r : ℕ) where
+  -- The start, then the body and the end of it: `f` is the body, and what is noted is noted before the start.
   pub rule-is : (f : ParserState → Ending ParserState) (m : ParserState)
       → Pest.rule g true line r f m
-      ≡ on-ok (starting g line m) (λ n. Pest.rule-start g true line r (if eqb (m .position) (m .attempt-pos) then length (m .pos-attempts) else 0) (if eqb (m .position) (m .attempt-pos) then length (m .neg-attempts) else 0) f m n)
-  rule-is f m = go (produces m)
+      ≡ on-ok (starting g line m) (λ n. Pest.rule-end g true line r (m .position) (length (m .queue)) (noted (m .position) (tried-of m) .positives) (noted (m .position) (tried-of m) .negatives) (noted (m .position) (tried-of m) .total) (f n))
+  rule-is f m = go (produces m) (leb (g .capacity) (length (m .queue)))
     where
-      k : ParserState → ParserState → Ending ParserState
-      k m n = Pest.rule-start g true line r (if eqb (m .position) (m .attempt-pos) then length (m .pos-attempts) else 0) (if eqb (m .position) (m .attempt-pos) then length (m .neg-attempts) else 0) f m n
+      k : ParserState → Ending ParserState
+      k n = Pest.rule-end g true line r (m .position) (length (m .queue)) (noted (m .position) (tried-of m) .positives) (noted (m .position) (tried-of m) .negatives) (noted (m .position) (tried-of m) .total) (f n)
 
-      go : (b : Bool)
-          → elim b [ false ↦ k m m | true ↦ push-token g true line (Start 0 (m .position)) m (λ n. k m n) ]
-          ≡ on-ok (elim b [ false ↦ Ok m | true ↦ push-token g true line (Start 0 (m .position)) m (λ t. Ok t) ]) (λ n. k m n)
-      go true = push-then g line (Start 0 (m .position)) m (λ n. k m n)
-      go false = refl
+      pushed : ParserState
+      pushed = set-queue (m .queue ++ (Start 0 (m .position) ∷ [])) m
 
-  pub tracking-then : (due : Bool) (p pi ni prev : ℕ) (m : ParserState) (k : ParserState → Ending ParserState)
+      go : (b c : Bool) → elim b [ false ↦ k m | true ↦ stop-if c (TokensFull line) (λ _. k pushed) ] ≡ on-ok (elim b [ false ↦ Ok m | true ↦ stop-if c (TokensFull line) (λ _. Ok pushed) ]) k
+      go true true = refl
+      go true false = refl
+      go false true = refl
+      go false false = refl
+
+  tracking-then : (due : Bool) (p pi ni prev : ℕ) (m : ParserState) (k : ParserState → Ending ParserState)
       → tracking g true due line r p pi ni prev m k ≡ on-ok (tracking g true due line r p pi ni prev m (λ t. Ok t)) k
   tracking-then due p pi ni prev m k = go (due && not (is-atomic (m .atomicity))) (ltb most-attempts (length (n .pos-attempts)) || ltb most-attempts (length (n .neg-attempts)))
     where
@@ -214,3 +209,13 @@ module _ (g : Setting) (line r : ℕ) where
       go true false = refl
       go false true = refl
       go false false = refl
+
+  -- The end, by how the body ended: tracking, then the End, or the queue cut back.
+  module _ (p i pi ni prev : ℕ) (m : ParserState) where
+    pub rule-end-ok : Pest.rule-end g true line r p i pi ni prev (Ok m)
+        ≡ on-ok (tracking g true (is-negative (m .lookahead)) line r p pi ni prev m (λ t. Ok t)) (λ t. close-rule g true line r i t)
+    rule-end-ok = tracking-then (is-negative (m .lookahead)) p pi ni prev m (λ t. close-rule g true line r i t)
+
+    pub rule-end-err : Pest.rule-end g true line r p i pi ni prev (Err m)
+        ≡ on-ok (tracking g true (not (is-negative (m .lookahead))) line r p pi ni prev m (λ t. Ok t)) (λ t. Err (dropped i t))
+    rule-end-err = tracking-then (not (is-negative (m .lookahead))) p pi ni prev m (λ t. Err (dropped i t))
