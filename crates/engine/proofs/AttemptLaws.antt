@@ -10,13 +10,14 @@ use lib.ListN.{length, take, set, length-append}
 use lib.Seq.{take-all}
 use lib.Dec.{eqb, ltb}
 use borrow.Author.Tests.{eq-eqb, ne-eqb, lt-ltb, le-ltb}
+use Rattle.engine.specs.declared.attempts.Attempts.{Attempts}
 use Rattle.engine.specs.declared.attempts.Noted.{Noted}
 use Rattle.engine.specs.Ending.{if_then_else_, is-negative, is-atomic}
 use Rattle.engine.specs.Reading.{most-attempts}
 use Rattle.engine.specs.Pest as Pest
 use Rattle.engine.specs.Pest.{ParserState}
-use Rattle.engine.specs.Areas.{numbers, Outside}
-use Rattle.engine.specs.Attempts.{Tried, tried-of, with-tried, noted, truncated, advanced, appended, tracked, Track, kept, full, within}
+use Rattle.engine.specs.Areas.{numbers, Outside, positives-at, negatives-at}
+use Rattle.engine.specs.Attempts.{Tried, tried, tried-of, with-tried, noted, truncated, advanced, appended, tracked, Track, kept, full, within, Few}
 use Rattle.engine.proofs.AreaLaws.{outside-refl, outside-set, outside-set-in, numbers-length, numbers-same, numbers-set, numbers-take, same-below, same-above}
 
 tried-ext : {f f′ : ℕ} {p p′ n n′ : List ℕ} → f ≡ f′ → p ≡ p′ → n ≡ n′
@@ -154,9 +155,12 @@ with-if : (b : Bool) (x y : Tried) (m : ParserState) → (if b then with-tried x
 with-if true x y m = refl
 with-if false x y m = refl
 
--- What `rule` notes is what `note` gives.
-pub noted-total : (p : ℕ) (m : ParserState) → noted p (tried-of m) .total ≡ Pest.attempts-at p m
-noted-total p m = refl
+-- Lists of at most 256 rules, as counts.
+pub few-of : (scratch : List ℕ) (t : Attempts) → length (tried scratch t .positive) ≤ most-attempts → length (tried scratch t .negative) ≤ most-attempts → Few t
+few-of a t h g = record {
+  few-positives = omega (arith, numbers-length a positives-at (t .positives));
+  few-negatives = omega (arith, numbers-length a negatives-at (t .negatives));
+}
 
 module _ (r p : ℕ) (n : Noted) (t : Tried) (m : ParserState) where
   truncate-is : Pest.truncate-attempts p (n .positives) (n .negatives) (with-tried t m) ≡ with-tried (truncated p n t) m

@@ -21,3 +21,4 @@ pub mod Evaluation
 pub mod Spine
 pub mod Refusals
 pub mod StackMatch
+pub mod Rule
