@@ -7,3 +7,5 @@ pub mod FirstLine
 pub mod EdgeLaws
 pub mod GrammarLaws
 pub mod RefusalLaws
+pub mod Trees
+pub mod Accepted
