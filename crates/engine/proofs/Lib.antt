@@ -35,3 +35,5 @@ pub mod IndexLaws
 pub mod PopMatch
 pub mod StateSteps
 pub mod RuleLaws
+pub mod Trees
+pub mod Accepted

@@ -31,20 +31,19 @@ flag-in f zero h = absurd (omega arith)
 flag-in f (suc l) h = let e : suc l - 1 ≡ l = omega arith in ap (λ (k : ℕ). getD f k false) e
 
 -- ── One line, as the code reads it: the table's rows over what the fields and flags say ──
-rows : (none-a none-b a b : Bool) → List Bool
-rows none-a none-b a b =
+abbrev pub still-rows : (none-a none-b a b : Bool) → List Bool
+still-rows none-a none-b a b =
     none-b ∷ none-b ∷ false ∷ none-a ∷ true ∷ (a && b) ∷ (a || b) ∷ b ∷ a ∷ true ∷ true ∷ true ∷ a ∷ a ∷ true ∷ true ∷ true ∷ a ∷ true ∷ a ∷ []
 
 module _ (s : ℕ → Bool) (n : Node) (v : Line) (e : v ≡ line-of n) where
-  line-rows : row (rows (eqb (v .a) 0) (eqb (v .b) 0) (s (v .a)) (s (v .b))) false (pos (v .kind)) ≡ stands-still s n
-  unfolding stands-still rows
-  line-rows = ap (λ (w : Line). row (rows (eqb (w .a) 0) (eqb (w .b) 0) (s (w .a)) (s (w .b))) false (pos (w .kind))) e
+  line-rows : row (still-rows (eqb (v .a) 0) (eqb (v .b) 0) (s (v .a)) (s (v .b))) false (pos (v .kind)) ≡ stands-still s n
+  unfolding stands-still
+  line-rows = ap (λ (w : Line). row (still-rows (eqb (w .a) 0) (eqb (w .b) 0) (s (w .a)) (s (w .b))) false (pos (w .kind))) e
 
   pub line-still : {a b r : Bool} → a ≡ s (v .a) → b ≡ s (v .b)
       → r ≡ row (eqb (v .b) 0 ∷ eqb (v .b) 0 ∷ false ∷ eqb (v .a) 0 ∷ true ∷ (a && b) ∷ (a || b) ∷ b ∷ a ∷ true ∷ true ∷ true ∷ a ∷ a ∷ true ∷ true ∷ true ∷ a ∷ true ∷ a ∷ []) false (pos (v .kind))
       → r ≡ stands-still s n
-  unfolding rows
-  line-still p q r = r ∙ ap₂ (λ (x y : Bool). row (rows (eqb (v .a) 0) (eqb (v .b) 0) x y) false (pos (v .kind))) p q ∙ line-rows
+  line-still p q r = r ∙ ap₂ (λ (x y : Bool). row (still-rows (eqb (v .a) 0) (eqb (v .b) 0) x y) false (pos (v .kind))) p q ∙ line-rows
 
 -- ── Monotone ──
 infix 10 _⊆_
@@ -78,11 +77,11 @@ abbrev same : {x : Bool} → x ≡ true → x ≡ true
 same h = h
 
 pub still-mono : (s t : ℕ → Bool) → s ⊆ t → (n : Node) → stands-still s n ≡ true → stands-still t n ≡ true
-unfolding stands-still rows
+unfolding stands-still
 still-mono s t h n =
     let a : ℕ = natural (n .a) in
     let b : ℕ = natural (n .b) in
-    each-at (rows (eqb a 0) (eqb b 0) (s a) (s b)) (rows (eqb a 0) (eqb b 0) (t a) (t b))
+    each-at (still-rows (eqb a 0) (eqb b 0) (s a) (s b)) (still-rows (eqb a 0) (eqb b 0) (t a) (t b))
     (same, (same, (same, (same, (same, (and-mono (s a) (s b) (h a) (h b), (or-mono (s a) (s b) (h a) (h b), (h b, (h a, (same, (same, (same, (h a, (h a, (same, (same, (same, (h a, (same, (h a, tt))))))))))))))))))))
     (natural (n .kind) - 1)
 
