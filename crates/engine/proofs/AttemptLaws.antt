@@ -174,8 +174,10 @@ module _ (r p : ℕ) (n : Noted) (t : Tried) (m : ParserState) where
     where
       s₁ : Tried
       s₁ = record { furthest = t .furthest; positive = t .positive ++ (r ∷ []); negative = t .negative }
+
       s₂ : Tried
       s₂ = record { furthest = t .furthest; positive = t .positive; negative = t .negative ++ (r ∷ []) }
+
       go : (b c : Bool) → (if b then (if c then with-tried s₁ m else with-tried s₂ m) else with-tried t m) ≡ with-tried (if b then (if c then s₁ else s₂) else t) m
       go true true = refl
       go true false = refl

@@ -11,15 +11,7 @@ ghost use Rattle.engine.specs.Outcome.{filled};
 ghost use Rattle.engine.specs.Tokens.{put-token, Pushed, Patched, Tagged};
 
 // Writes the token at index i.
-fn put(
-    tokens: &mut [u32],
-    i: usize,
-    kind: u32,
-    partner: u32,
-    position: u32,
-    rule: u32,
-    tag: u32,
-)
+fn put(tokens: &mut [u32], i: usize, kind: u32, partner: u32, position: u32, rule: u32, tag: u32)
     requires { ⌜ i * 5 + 5 ≤ length (now tokens) ⌝ }
     ensures { λ _. ⌜ now (tokens .exit) ≡ put-token (now (tokens .entry)) i (record { kind = kind; partner = partner; position = position; rule = rule; tag = tag }) ⌝ }
 {
@@ -41,13 +33,7 @@ pub fn push_start(tokens: &mut [u32], n: TokenIndex, p: BytePosition)
 }
 
 // Pushes an End without a tag, onto a queue of n tokens.
-pub fn push_end(
-    tokens: &mut [u32],
-    n: TokenIndex,
-    partner: TokenIndex,
-    rule: u32,
-    p: BytePosition,
-)
+pub fn push_end(tokens: &mut [u32], n: TokenIndex, partner: TokenIndex, rule: u32, p: BytePosition)
     requires { ⌜ (n .0 * 5 + 5 ≤ length (now tokens)) × (p .0 ≤ 65535) ⌝ }
     requires { ⌜ partner .0 ≤ 4294967295 ⌝ }
     ensures { λ _. ⌜ Pushed (now (tokens .entry)) (n .0) (End (partner .0) rule 0 (p .0)) (now (tokens .exit)) ⌝ }
