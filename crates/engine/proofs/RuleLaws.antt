@@ -169,10 +169,11 @@ module _ (g : Setting) (due : Bool) (line r p : ℕ) (n : Noted) (m : ParserStat
   pub track-atomic : due ≡ true → is-atomic (m .atomicity) ≡ true → Ok m ≡ tracking g true due line r p (n .positives) (n .negatives) (n .total) m (λ t. Ok t)
   track-atomic d f = when-false (due && not (is-atomic (m .atomicity))) (Ok m) (now-tracked line after) (rw (d, f))
 
-  pub track-told : (w : Track) → due ≡ true → is-atomic (m .atomicity) ≡ false → w ≡ within (tracked r p n (is-negative (m .lookahead)) (tried-of m))
-      → told line w m ≡ tracking g true due line r p (n .positives) (n .negatives) (n .total) m (λ t. Ok t)
-  track-told w d f e =
-      ap (λ (x : Track). told line x m) e
+  -- w is what tracking gave under the lookahead that `neg` tells of, and v is that answer seen again.
+  pub track-told : (v w : Track) (neg : Bool) → v ≡ w → w ≡ within (tracked r p n neg (tried-of m)) → neg ≡ is-negative (m .lookahead) → due ≡ true → is-atomic (m .atomicity) ≡ false
+      → told line v m ≡ tracking g true due line r p (n .positives) (n .negatives) (n .total) m (λ t. Ok t)
+  track-told v w neg q e h d f =
+      ap (λ (x : Track). told line x m) (q ∙ e ∙ ap (λ (b : Bool). within (tracked r p n b (tried-of m))) h)
       ∙ told-within line (tracked r p n (is-negative (m .lookahead)) (tried-of m)) m
       ∙ ap (now-tracked line) (sym (track-is r p n m f))
       ∙ when-true (due && not (is-atomic (m .atomicity))) (Ok m) (now-tracked line after) (rw (d, f))

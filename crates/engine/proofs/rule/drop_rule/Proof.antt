@@ -1,5 +1,10 @@
 -- The queue is cut, is short already, or is not the rule's.
-use mathlib.Core.Path.{sym, _∙_}
+use mathlib.Core.Path.{_≡_, sym, _∙_}
+use mathlib.Core.Bool.{true, false}
+use mathlib.Core.List.{List}
+use Prim.Native.Nat.{ℕ}
+use Rattle.engine.specs.declared.parser_state.ParserState.{ParserState}
+use Rattle.engine.specs.Pest.{produces}
 use Rattle.engine.specs.Areas.{view, queue-of}
 use Rattle.engine.proofs.TokenLaws.{queue-take, queue-length}
 use Rattle.engine.proofs.RuleLaws.{drop-some, drop-none, drop-off}
@@ -12,13 +17,27 @@ produces-requires : tie.Need-produces-requires
 produces-requires c κs = search needs
 
 returns : tie.Need-returns
-returns c = (λ tokens scratch. drop-some (c .before .before .before .before .before .before .before .before .before .before .args .index .0) (view tokens scratch (c .before .before .before .before .before .before .before .before .before .before .args .s)) (queue-of tokens (c .before .before .before .before .before .before .before .before .before .before .args .index .0)) (sym (c .before .before .before .before .before .before .before .before .produces .ensures tokens scratch) ∙ c .before .before .before .before .before .before .before .if1 .taken) (sym (queue-take tokens (c .before .before .before .before .before .before .before .before .before .before .args .s .queue .0) (c .before .before .before .before .before .before .before .before .before .before .args .index .0) (omega arith))), omega arith)
+returns c =
+    let s : ParserState = c .before .before .before .before .before .before .before .before .before .before .args .s in
+    let n : ℕ = c .before .before .before .before .before .before .before .before .before .before .args .s .queue .0 in
+    let i : ℕ = c .before .before .before .before .before .before .before .before .before .before .args .index .0 in
+    let on : ((tokens scratch : List ℕ) → produces (view tokens scratch s) ≡ true) = λ tokens scratch. sym (c .before .before .before .before .before .before .before .before .produces .ensures tokens scratch) ∙ c .before .before .before .before .before .before .before .if1 .taken in
+    (λ tokens scratch. drop-some i (view tokens scratch s) (queue-of tokens i) (on tokens scratch) (sym (queue-take tokens n i (omega arith))), omega arith)
 
 returns-2 : tie.Need-returns-2
-returns-2 c = (λ tokens scratch. drop-none (c .before .before .before .before .before .before .args .index .0) (view tokens scratch (c .before .before .before .before .before .before .args .s)) (sym (c .before .before .before .before .produces .ensures tokens scratch) ∙ c .before .before .before .if1 .taken) (omega (arith, queue-length tokens (c .before .before .before .before .before .before .args .s .queue .0))), omega arith)
+returns-2 c =
+    let s : ParserState = c .before .before .before .before .before .before .args .s in
+    let n : ℕ = c .before .before .before .before .before .before .args .s .queue .0 in
+    let i : ℕ = c .before .before .before .before .before .before .args .index .0 in
+    let on : ((tokens scratch : List ℕ) → produces (view tokens scratch s) ≡ true) = λ tokens scratch. sym (c .before .before .before .before .produces .ensures tokens scratch) ∙ c .before .before .before .if1 .taken in
+    (λ tokens scratch. drop-none i (view tokens scratch s) (on tokens scratch) (omega (arith, queue-length tokens n)), omega arith)
 
 returns-3 : tie.Need-returns-3
-returns-3 c = (λ tokens scratch. drop-off (c .before .before .before .args .index .0) (view tokens scratch (c .before .before .before .args .s)) (sym (c .before .produces .ensures tokens scratch) ∙ c .if1 .left), omega arith)
+returns-3 c =
+    let s : ParserState = c .before .before .before .args .s in
+    let i : ℕ = c .before .before .before .args .index .0 in
+    let off : ((tokens scratch : List ℕ) → produces (view tokens scratch s) ≡ false) = λ tokens scratch. sym (c .before .produces .ensures tokens scratch) ∙ c .if1 .left in
+    (λ tokens scratch. drop-off i (view tokens scratch s) (off tokens scratch), omega arith)
 
 pub drop-rule-spec : {M : Type 1} → statement M
 drop-rule-spec = tie.close (tie.spec produces-requires returns returns-2 returns-3)

@@ -1,6 +1,11 @@
 -- A Start is pushed, there is no room for it, or the rule is not recorded.
-use mathlib.Core.Path.{sym, _∙_}
-use Rattle.engine.specs.Areas.{view, queue-of}
+use mathlib.Core.Path.{_≡_, sym, _∙_}
+use mathlib.Core.Bool.{true, false}
+use mathlib.Core.List.{List}
+use Prim.Native.Nat.{ℕ}
+use Rattle.engine.specs.declared.parser_state.ParserState.{ParserState}
+use Rattle.engine.specs.Pest.{produces}
+use Rattle.engine.specs.Areas.{view}
 use Rattle.engine.proofs.AreaLaws.{outside-refl}
 use Rattle.engine.proofs.RuleLaws.{start-ok, start-full, start-off, room-yes, room-no}
 use borrow.Author.Needs.{needs}
@@ -21,23 +26,31 @@ same-length c = search needs
 
 returns : tie.Need-returns
 returns c =
-    (
-      λ g scratch e. start-ok g (c .before .before .before .before .before .before .before .before .before .before .before .before .before .before .before .before .args .line) (view (c .before .before .before .before .before .before .before .before .before .before .before .before .before .before .before .before .args .tokens .now) scratch (c .before .before .before .before .before .before .before .before .before .before .before .before .before .before .before .before .args .s)) _ (sym (c .before .before .before .before .before .before .before .before .before .before .before .before .produces .ensures (c .before .before .before .before .before .before .before .before .before .before .before .before .before .before .before .before .args .tokens .now) scratch) ∙ c .before .before .before .before .before .before .before .before .before .before .before .if1 .taken) (room-yes (c .before .before .before .before .before .before .before .before .before .before .before .before .before .before .before .before .args .tokens .now) (c .before .before .before .before .before .before .before .before .before .before .before .before .before .before .before .before .args .s .queue .0) (c .before .before .before .before .before .before .before .before .before .before .before .before .before .before .before .before .args .capacity) (g .capacity) e (c .before .before .before .before .before .before .before .before .before .if2 .taken)) (c .before .before .before .before .before .before .push-start .ensures .queue),
+    let a : List ℕ = c .before .before .before .before .before .before .before .before .before .before .before .before .before .before .before .before .args .tokens .now in
+    let s : ParserState = c .before .before .before .before .before .before .before .before .before .before .before .before .before .before .before .before .args .s in
+    let n : ℕ = c .before .before .before .before .before .before .before .before .before .before .before .before .before .before .before .before .args .s .queue .0 in
+    let on : ((scratch : List ℕ) → produces (view a scratch s) ≡ true) = λ scratch. sym (c .before .before .before .before .before .before .before .before .before .before .before .before .produces .ensures a scratch) ∙ c .before .before .before .before .before .before .before .before .before .before .before .if1 .taken in (
+      λ g scratch e. start-ok g (c .before .before .before .before .before .before .before .before .before .before .before .before .before .before .before .before .args .line) (view a scratch s) _ (on scratch) (room-yes a n (c .before .before .before .before .before .before .before .before .before .before .before .before .before .before .before .before .args .capacity) (g .capacity) e (c .before .before .before .before .before .before .before .before .before .if2 .taken)) (c .before .before .before .before .before .before .push-start .ensures .queue),
       record { written = c .before .before .before .before .before .before .push-start .ensures .written; others = c .before .before .before .before .before .before .push-start .ensures .others },
     )
 
 returns-2 : tie.Need-returns-2
 returns-2 c =
-    (
-      λ g scratch e. start-full g (c .before .before .before .before .before .before .before .args .line) (view (c .before .before .before .before .before .before .before .args .tokens .now) scratch (c .before .before .before .before .before .before .before .args .s)) (sym (c .before .before .before .produces .ensures (c .before .before .before .before .before .before .before .args .tokens .now) scratch) ∙ c .before .before .if1 .taken) (room-no (c .before .before .before .before .before .before .before .args .tokens .now) (c .before .before .before .before .before .before .before .args .s .queue .0) (c .before .before .before .before .before .before .before .args .capacity) (g .capacity) e (c .if2 .left)),
-      record { written = λ w. tt; others = outside-refl (c .before .before .before .before .before .before .before .args .tokens .now) },
+    let a : List ℕ = c .before .before .before .before .before .before .before .args .tokens .now in
+    let s : ParserState = c .before .before .before .before .before .before .before .args .s in
+    let n : ℕ = c .before .before .before .before .before .before .before .args .s .queue .0 in
+    let on : ((scratch : List ℕ) → produces (view a scratch s) ≡ true) = λ scratch. sym (c .before .before .before .produces .ensures a scratch) ∙ c .before .before .if1 .taken in (
+      λ g scratch e. start-full g (c .before .before .before .before .before .before .before .args .line) (view a scratch s) (on scratch) (room-no a n (c .before .before .before .before .before .before .before .args .capacity) (g .capacity) e (c .if2 .left)),
+      record { written = λ w. tt; others = outside-refl a },
     )
 
 returns-3 : tie.Need-returns-3
 returns-3 c =
-    (
-      λ g scratch e. start-off g (c .before .before .before .before .before .args .line) (view (c .before .before .before .before .before .args .tokens .now) scratch (c .before .before .before .before .before .args .s)) (sym (c .before .produces .ensures (c .before .before .before .before .before .args .tokens .now) scratch) ∙ c .if1 .left),
-      record { written = λ w. w; others = outside-refl (c .before .before .before .before .before .args .tokens .now) },
+    let a : List ℕ = c .before .before .before .before .before .args .tokens .now in
+    let s : ParserState = c .before .before .before .before .before .args .s in
+    let off : ((scratch : List ℕ) → produces (view a scratch s) ≡ false) = λ scratch. sym (c .before .produces .ensures a scratch) ∙ c .if1 .left in (
+      λ g scratch e. start-off g (c .before .before .before .before .before .args .line) (view a scratch s) (off scratch),
+      record { written = λ w. w; others = outside-refl a },
     )
 
 pub start-rule-spec : {M : Type 1} → statement M

@@ -1,6 +1,9 @@
 -- Under lookahead None the last token is tagged.
 use mathlib.Core.Path.{sym, _∙_}
-use Rattle.engine.specs.Areas.{view, queue-of}
+use mathlib.Core.List.{List}
+use Prim.Native.Nat.{ℕ}
+use Rattle.engine.specs.declared.parser_state.ParserState.{ParserState}
+use Rattle.engine.specs.Areas.{view}
 use Rattle.engine.proofs.AreaLaws.{outside-refl}
 use Rattle.engine.proofs.RuleLaws.{tag-on, tag-off}
 use borrow.Author.Needs.{needs}
@@ -18,13 +21,19 @@ same-length c = search needs
 
 returns : tie.Need-returns
 returns c =
-    (
-      λ scratch. tag-on (c .before .before .before .before .before .before .before .before .args .tag) (view (c .before .before .before .before .before .before .before .before .args .tokens .now) scratch (c .before .before .before .before .before .before .before .before .args .s)) _ (sym (c .before .before .before .before .before .is-none .ensures) ∙ c .before .before .before .before .if1 .taken) (c .before .before .tag-last .ensures .queue),
+    let a : List ℕ = c .before .before .before .before .before .before .before .before .args .tokens .now in
+    let s : ParserState = c .before .before .before .before .before .before .before .before .args .s in (
+      λ scratch. tag-on (c .before .before .before .before .before .before .before .before .args .tag) (view a scratch s) _ (sym (c .before .before .before .before .before .is-none .ensures) ∙ c .before .before .before .before .if1 .taken) (c .before .before .tag-last .ensures .queue),
       record { written = c .before .before .tag-last .ensures .written; others = c .before .before .tag-last .ensures .others },
     )
 
 returns-2 : tie.Need-returns-2
-returns-2 c = (λ scratch. tag-off (c .before .before .before .before .args .tag) (view (c .before .before .before .before .args .tokens .now) scratch (c .before .before .before .before .args .s)) (sym (c .before .is-none .ensures) ∙ c .if1 .left), record { written = λ w. w; others = outside-refl (c .before .before .before .before .args .tokens .now) })
+returns-2 c =
+    let a : List ℕ = c .before .before .before .before .args .tokens .now in
+    let s : ParserState = c .before .before .before .before .args .s in (
+      λ scratch. tag-off (c .before .before .before .before .args .tag) (view a scratch s) (sym (c .before .is-none .ensures) ∙ c .if1 .left),
+      record { written = λ w. w; others = outside-refl a },
+    )
 
 pub tag-node-spec : {M : Type 1} → statement M
 tag-node-spec =
