@@ -11,8 +11,8 @@ use lib.IntN.{ℤ, pos, negsuc}
 use lib.ListN.{length, getD, replicate, length-append, length-replicate, List·getD-append}
 use mir.Syntax.{w32}
 use mir.Val.{SFits}
-use borrow.Author.Tests.{ltb-true, ltb-false, leb-true, leb-false, eqb-true, eqb-false, lt-ltb, le-ltb, le-leb, lt-leb, eq-eqb, ne-eqb}
-use Rattle.sheet.specs.Field.{and-then, behind-spaces, digit, decimal, natural, positive, negative, signed, field}
+use borrow.Author.Tests.{ltb-true, ltb-false, leb-true, eqb-true, eqb-false, lt-ltb, le-ltb, le-leb, ne-eqb}
+use Rattle.sheet.specs.Field.{behind-spaces, digit, decimal, natural, positive, negative, signed, field}
 use Rattle.sheet.specs.Numeral.{spelled, numeral, signed-numeral, justified, field-text}
 use Rattle.sheet.proofs.FieldLaws.{then-some, digit-small}
 

@@ -1,15 +1,15 @@
 -- The definitions of specs/Sheet.antt taken one line at a time: line i stands at byte i * 41, and what lies behind it is the rest of
 -- the lines. Then an area that is written from its start, and a line by its four fields.
-use Prim.Native.Nat.{ℕ, zero, suc, _+_, _-_, _*_, _/_, _%_, _≤_, _<_}
+use Prim.Native.Nat.{ℕ, zero, suc, _+_, _-_, _*_, _%_, _≤_, _<_}
 use native.Mathlib.Omega.{arith}
 use native.Mathlib.Numerals.{add-one}
 use mathlib.Core.Path.{_≡_, refl, sym, ap, _∙_}
-use mathlib.Core.Bool.{Bool, true, false, cond, _&&_}
+use mathlib.Core.Bool.{Bool, true, false, _&&_}
 use mathlib.Core.List.{List, [], _∷_, _++_, append-assoc, append-nil}
 use mathlib.Core.Option.{Option, none, some, Option·some-injective}
 use lib.Dec.{ltb, leb, eqb}
 use lib.IntN.{ℤ}
-use lib.ListN.{length, getD, take, drop, set, length-append, length-take, length-drop}
+use lib.ListN.{length, getD, take, drop, set, length-append, length-drop}
 use lib.Seq.{drop-drop, getD-take, getD-drop, take-take, take-add, take-at, drop-at, length-take-le, drop-append-add, sets, sets-eq}
 use mir.Syntax.{w32}
 use mir.Val.{SFits, toZ, ofZ}
@@ -21,9 +21,7 @@ use Rattle.sheet.specs.Field.{and-then, field}
 use Rattle.sheet.specs.Sheet.{cut, count, lines, ended, lined, Node, columns, line, first-malformed, four, numbers, Reading, refused, read, reading, outcome, area-after, SheetRead}
 use Rattle.sheet.specs.Answers.{field-of, line-of}
 use Rattle.sheet.proofs.FieldLaws.{then-some, field-back}
-use Rattle.sheet.specs.declared.field.Field.{Field}
 use Rattle.sheet.specs.declared.field.Field.the-variants.{Number, Malformed}
-use Rattle.sheet.specs.declared.sheet.Line.{Line}
 use Rattle.sheet.specs.declared.sheet.Line.the-variants.{Fields, Bad}
 
 -- line i, counted from 0, and the lines from i on, of n
@@ -275,15 +273,25 @@ passed s room r o e = by-lined (lined s) refl
 
 -- what becomes of the area
 module _ (s : List ℕ) (a : List ℤ) (r : Outcome) (o : r ≡ outcome (reading s (length a))) where
-  pub sheet-read : (b : List ℤ) → Passed s (length a) → b ≡ over (numbers (lines s)) a → SheetRead s a b r
-  sheet-read b p e = record { answer = o; area = rw (p .all) e }
+  pub sheet-read : (b : List ℤ) → Passed s (length a) → b ≡ over (numbers (lines s)) a → length b ≡ length a → SheetRead s a b r
+  sheet-read b p e l =
+      let c : r .count ≡ count s = ap (λ y. y .count) o ∙ ap (λ y. (outcome y) .count) (p .all) in
+      let w : r .count * 4 ≤ length b = rw (c, l) (p .fits) in
+      record { answer = o; area = rw (p .all) e; within = w; part = sym (length-take-le (r .count * 4) b w) }
 
   pub sheet-refused : (r .number ≡ 0 → ⊥) → SheetRead s a a r
-  sheet-refused z = record { answer = o; area = left (reading s (length a)) (λ e. z (ap (λ y. y .number) o ∙ e)) }
+  sheet-refused z =
+      let n : (outcome (reading s (length a))) .number ≡ 0 → ⊥ = λ e. z (ap (λ y. y .number) o ∙ e) in
+      let c : r .count ≡ 0 = ap (λ y. y .count) o ∙ none-counted (reading s (length a)) n in
+      record { answer = o; area = left (reading s (length a)) n; within = rw c (omega arith); part = rw c }
     where
       left : (x : Reading) → ((outcome x) .number ≡ 0 → ⊥) → a ≡ area-after x a
       left (refused n p) h = refl
       left (read n ns) h = absurd (h refl)
+
+      none-counted : (x : Reading) → ((outcome x) .number ≡ 0 → ⊥) → (outcome x) .count ≡ 0
+      none-counted (refused n p) h = refl
+      none-counted (read n ns) h = absurd (h refl)
 
 -- how far the nodes are written: those of the first i lines, and none of the lines from i on is malformed
 pub record Written (s : List ℕ) (n i : ℕ) (before area : List ℤ) : Type 0 where

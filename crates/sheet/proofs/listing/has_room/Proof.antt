@@ -1,6 +1,4 @@
 -- `has_room` takes each field off the room: what is left and the fields passed are the whole room.
-use mathlib.Core.Path.{_≡_, refl, sym, ap, _∙_}
-use native.Mathlib.Omega.{arith}
 use Prim.Native.Nat.{_-_}
 use lib.ListN.{length}
 use Rattle.sheet.proofs.ListingLaws.{Left, left-all, left-short, left-more, left-end}

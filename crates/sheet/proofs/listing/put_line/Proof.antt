@@ -1,5 +1,4 @@
 -- `put_line` writes field behind field over the start of the area, and the line's end behind the last.
-use mathlib.Core.Path.{_≡_, refl, sym, ap, _∙_}
 use native.Mathlib.Omega.{arith}
 use Prim.Native.Nat.{_-_}
 use lib.ListN.{length, length-set}

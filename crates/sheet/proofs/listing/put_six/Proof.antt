@@ -1,8 +1,5 @@
 -- `put_six` writes the spaces and then the numeral behind them: two runs of stores that meet.
-use mathlib.Core.Path.{_≡_, refl, sym, ap, _∙_}
 use native.Mathlib.Omega.{arith}
-use lib.ListN.{length}
-use lib.Seq.{length-sets}
 use Rattle.sheet.proofs.ListingLaws.{six-length, six-put}
 use borrow.Author.Needs.{needs}
 use Rattle.sheet.proofs.listing.put_six.Statement.{statement}

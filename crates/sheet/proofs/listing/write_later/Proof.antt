@@ -1,5 +1,4 @@
 -- Each way out is one case of `later-line`.
-use mathlib.Core.Path.{_≡_, refl, sym, ap, _∙_}
 use Rattle.sheet.proofs.ListingLaws.{renamed, no-text, later-over, later-token, later-rule, later-none}
 use borrow.Author.Needs.{needs}
 use Rattle.sheet.proofs.listing.write_later.Statement.{statement}

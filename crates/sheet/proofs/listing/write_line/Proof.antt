@@ -1,6 +1,5 @@
 -- `write_line` writes only where the whole line has room.
-use mathlib.Core.Path.{_≡_, refl, sym, ap, _∙_}
-use native.Mathlib.Omega.{arith}
+use mathlib.Core.Path.{sym, _∙_}
 use borrow.Author.Tests.{ltb-true, ltb-false}
 use Rattle.sheet.proofs.ListingLaws.{written-whole, written-short}
 use borrow.Author.Needs.{needs}

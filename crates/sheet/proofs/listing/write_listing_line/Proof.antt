@@ -1,5 +1,4 @@
 -- The head is line 0; line k behind it is the later line k - 1.
-use mathlib.Core.Path.{_≡_, refl, sym, ap, _∙_}
 use Rattle.sheet.proofs.ListingLaws.{renamed, listing-head, listing-later}
 use borrow.Author.Needs.{needs}
 use Rattle.sheet.proofs.listing.write_listing_line.Statement.{statement}

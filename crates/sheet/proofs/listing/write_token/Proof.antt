@@ -1,5 +1,5 @@
 -- The numbers that were read are those of the token's line.
-use mathlib.Core.Path.{_≡_, refl, sym, ap, _∙_}
+use mathlib.Core.Path.{ap}
 use Rattle.sheet.specs.Listing.{line-text}
 use Rattle.sheet.proofs.ListingLaws.{renamed, token-is}
 use borrow.Author.Needs.{needs}

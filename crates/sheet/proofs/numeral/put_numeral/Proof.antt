@@ -1,5 +1,4 @@
 -- `put_numeral` writes the last digit first: the digits that are left are those of `rest`, and the others stand behind `i`.
-use mathlib.Core.Path.{_≡_, refl, sym, ap, _∙_}
 use native.Mathlib.Omega.{arith}
 use lib.ListN.{length-set}
 use Rattle.sheet.proofs.ListingLaws.{Spelt, spelt-none, spelt-length, spelt-some, spelt-within, spelt-more, spelt-all}

@@ -1,5 +1,5 @@
 -- `first_bad` passes a line that reads: the first bad line from line `i` on is the first of all.
-use mathlib.Core.Path.{_≡_, refl, sym, ap, _∙_}
+use mathlib.Core.Path.{_≡_, sym, ap, _∙_}
 use native.Mathlib.Omega.{arith}
 use Prim.Native.Nat.{_+_, _-_, _≤_}
 use Rattle.sheet.specs.Sheet.{cut, first-malformed}

@@ -1,6 +1,6 @@
 -- `put_nodes` writes line by line: before line `i` the area has the nodes of the first `i` lines over what it had, and the lines from `i` on
 -- are none of them malformed.
-use mathlib.Core.Path.{_≡_, refl, sym, ap, _∙_}
+use mathlib.Core.Path.{sym, _∙_}
 use native.Mathlib.Omega.{arith}
 use Prim.Native.Nat.{_-_}
 use Rattle.sheet.proofs.SheetLaws.{Written, written-none, written-length, written-all, written-bad, written-more, is-fields, is-bad}

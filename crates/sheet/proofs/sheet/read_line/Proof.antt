@@ -1,6 +1,5 @@
 -- `read_line` reads the four fields in order and stops at the first that is malformed, as `line` does.
-use mathlib.Core.Path.{_≡_, refl, sym, ap, _∙_}
-use native.Mathlib.Omega.{arith}
+use mathlib.Core.Path.{sym, _∙_}
 use Rattle.sheet.proofs.SheetLaws.{is-number, is-malformed, line-bad, line-bad-a, line-bad-b, line-bad-c, line-good}
 use borrow.Author.Needs.{needs}
 use Rattle.sheet.proofs.sheet.read_line.Statement.{statement}

@@ -1,5 +1,5 @@
 -- `tested` makes the three tests in order: each way out is one case of `reading`.
-use mathlib.Core.Path.{_≡_, refl, sym, ap, _∙_}
+use mathlib.Core.Path.{sym, ap, _∙_}
 use native.Mathlib.Omega.{arith}
 use borrow.Author.Tests.{not-true, not-false}
 use Rattle.sheet.specs.Sheet.{outcome}
