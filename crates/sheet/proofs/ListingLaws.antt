@@ -188,12 +188,16 @@ module _ (ns before area : List ℕ) (at i : ℕ) (s : Filled ns before area at 
   pub filled-room : i < length ns → at + length (six (getD ns i 0)) ≤ length area
   filled-room h = omega (arith, filled-length, s .place, fields-part ns (i + 1), fields-size ns i h)
 
-  pub filled-more : (after : List ℕ) (next : ℕ) → i < length ns → after ≡ sets area at (six (getD ns i 0)) → next ≡ at + length (six (getD ns i 0)) → Filled ns before after next (i + 1)
+  pub filled-more :
+      (after : List ℕ) (next : ℕ) → i < length ns → after ≡ sets area at (six (getD ns i 0)) →
+      next ≡ at + length (six (getD ns i 0)) → Filled ns before after next (i + 1)
   filled-more after next h e f =
       record {
         within = omega arith;
         place = omega (arith, s .place, fields-size ns i h);
-        wrote = rw (e, s .wrote, fields-more ns i h) (over-more (fields (take i ns)) (six (getD ns i 0)) before at (sym (s .place)) (omega (arith, filled-length, filled-room h)));
+        wrote =
+            rw (e, s .wrote, fields-more ns i h)
+            (over-more (fields (take i ns)) (six (getD ns i 0)) before at (sym (s .place)) (omega (arith, filled-length, filled-room h)));
       }
 
   module _ (h : length ns ≤ i) where
@@ -224,7 +228,9 @@ whole-none ns area h = rw (lt-leb (length (fields ns ++ (10 ∷ []))) (length ar
 pub written-none : (area : List ℕ) → Written [] area area 0
 written-none area = record { count = refl; area = sym (over-none area); within = omega arith; part = refl }
 
-pub written-whole : (ns before after : List ℕ) (r : ℕ) → length (fields ns) < length before → Written (line-text ns) before after r → Written (whole before (line-text ns)) before after r
+pub written-whole :
+    (ns before after : List ℕ) (r : ℕ) → length (fields ns) < length before →
+    Written (line-text ns) before after r → Written (whole before (line-text ns)) before after r
 written-whole ns before after r h w = rw (whole-line ns before h) w
 
 pub written-short : (ns area : List ℕ) → length area ≤ length (fields ns) → Written (whole area (line-text ns)) area area 0

@@ -83,7 +83,9 @@ numbers-more (suc i) s =
     ap (λ x. four (line (take 41 s)) ++ x) (numbers-more i (drop 41 s)) ∙ rw (drop-drop (i * 41) 41 s, d, append-assoc)
 
 -- writing behind what is written already
-pub over-more : {A : Type 0} (pre new area : List A) (at : ℕ) → length pre ≡ at → at + length new ≤ length area → sets (over pre area) at new ≡ over (pre ++ new) area
+pub over-more :
+    {A : Type 0} (pre new area : List A) (at : ℕ) → length pre ≡ at → at + length new ≤ length area →
+    sets (over pre area) at new ≡ over (pre ++ new) area
 unfolding over
 over-more pre new area at e h =
     sets-eq new (pre ++ drop (length pre) area) at (simp (length-append, length-drop) (omega arith))
@@ -116,7 +118,9 @@ module _ (s : List ℕ) (at : ℕ) (h : at + 41 ≤ length s) where
   columns-at : (f w : ℕ) → f + w ≤ 41 → columns f w (take 41 (drop at s)) ≡ take w (drop (at + f) s)
   columns-at f w k =
       let e : 41 ≡ f + (41 - f) = omega arith in
-      rw (e, take-add f (41 - f) (drop at s), drop-at (take f (drop at s)) _ f (length-take-le f (drop at s) (simp length-drop (omega arith))), drop-drop) (take-take w (41 - f) (drop (at + f) s) (omega arith))
+      let l : length (take f (drop at s)) ≡ f = length-take-le f (drop at s) (simp length-drop (omega arith)) in
+      rw (e, take-add f (41 - f) (drop at s), drop-at (take f (drop at s)) _ f l, drop-drop)
+      (take-take w (41 - f) (drop (at + f) s) (omega arith))
 
   by-parts :
       line (take 41 (drop at s)) ≡
@@ -149,7 +153,9 @@ module _ (s : List ℕ) (at : ℕ) (h : at + 41 ≤ length s) where
         unfolding line-of
         line-bad-c m = rw (by-parts, e, f, g, m)
 
-        pub line-good : (c : ℤ) → field (take 12 (drop (at + 28) s)) ≡ some c → Fields (kept k) (kept a) (kept b) (kept c) ≡ line-of (line (take 41 (drop at s)))
+        pub line-good :
+            (c : ℤ) → field (take 12 (drop (at + 28) s)) ≡ some c →
+            Fields (kept k) (kept a) (kept b) (kept c) ≡ line-of (line (take 41 (drop at s)))
         unfolding line-of
         line-good c m = rw (by-parts, e, f, g, m, field-back _ k e, field-back _ a f, field-back _ b g, field-back _ c m)
 
@@ -170,7 +176,9 @@ is-bad none e = refl
 is-bad (some n) e = cc
 
 -- the machine hands the four numbers of a line on as they are
-pub line-kept : (l : List ℕ) (k a b c : ℤ) → line l ≡ some (record { kind = k; a = a; b = b; c = c }) → (kept k ≡ k) × (kept a ≡ a) × (kept b ≡ b) × (kept c ≡ c)
+pub line-kept :
+    (l : List ℕ) (k a b c : ℤ) → line l ≡ some (record { kind = k; a = a; b = b; c = c }) →
+    (kept k ≡ k) × (kept a ≡ a) × (kept b ≡ b) × (kept c ≡ c)
 unfolding line
 line-kept l k a b c e =
     let p = then-some (field (columns 0 4 l)) _ _ e in
@@ -185,7 +193,9 @@ line-kept l k a b c e =
     )
 
 -- four numbers written one behind the other
-pub put-four : (l : List ℤ) (at : ℕ) (k a b c : ℤ) → SFits w32 k → SFits w32 a → SFits w32 b → SFits w32 c → set (set (set (set l at (kept k)) (at + 1) (kept a)) (at + 2) (kept b)) (at + 3) (kept c) ≡ sets l at (k ∷ a ∷ b ∷ c ∷ [])
+pub put-four :
+    (l : List ℤ) (at : ℕ) (k a b c : ℤ) → SFits w32 k → SFits w32 a → SFits w32 b → SFits w32 c →
+    set (set (set (set l at (kept k)) (at + 1) (kept a)) (at + 2) (kept b)) (at + 3) (kept c) ≡ sets l at (k ∷ a ∷ b ∷ c ∷ [])
 put-four l at k a b c fk fa fb fc =
     let e : at + 1 ≡ suc at = omega arith in
     let f : at + 2 ≡ suc (suc at) = omega arith in
@@ -315,7 +325,10 @@ module _ (s : List ℕ) (n i : ℕ) (before area : List ℤ) (w : Written s n i 
     pub written-bad : line (line-at s i) ≡ none → ⊥
     written-bad e = let z : i + 1 ≡ 0 = sym (malformed-here s n i h e) ∙ w .good in omega arith
 
-    pub written-more : (k a b c : ℤ) (after : List ℤ) → n * 4 ≤ length before → line (line-at s i) ≡ some (record { kind = k; a = a; b = b; c = c }) → after ≡ sets area (i * 4) (kept k ∷ kept a ∷ kept b ∷ kept c ∷ []) → Written s n (i + 1) before after
+    pub written-more :
+        (k a b c : ℤ) (after : List ℤ) → n * 4 ≤ length before →
+        line (line-at s i) ≡ some (record { kind = k; a = a; b = b; c = c }) →
+        after ≡ sets area (i * 4) (kept k ∷ kept a ∷ kept b ∷ kept c ∷ []) → Written s n (i + 1) before after
     written-more k a b c after m e o =
         let q = line-kept _ k a b c e in
         let x : numbers (cut (i + 1) s) ≡ numbers (cut i s) ++ (k ∷ a ∷ b ∷ c ∷ []) = rw (add-one i, numbers-more i s, e) in

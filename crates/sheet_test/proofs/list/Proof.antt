@@ -35,7 +35,10 @@ loop-less : tie.Need-loop-less Inv-loop μ-loop
 loop-less c = omega arith
 
 loop-again : tie.Need-loop-again Inv-loop μ-loop
-loop-again c = (omega arith, c .before .before .put-line .kept .1 .1 .1 .1 .0 ∙ c .before .before .before .before .before .loop .inv .1)
+loop-again c =
+    let c₁ = c .before .before in
+    let c₂ = c₁ .before .before .before in
+    (omega arith, c₁ .put-line .kept .1 .1 .1 .1 .0 ∙ c₂ .loop .inv .1)
 
 same-length : tie.Need-same-length Inv-loop μ-loop
 same-length c = c .before .loop .inv .1

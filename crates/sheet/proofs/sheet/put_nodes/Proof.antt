@@ -1,5 +1,5 @@
--- `put_nodes` writes line by line: before line `i` the area has the nodes of the first `i` lines over what it had, and the lines from `i` on
--- are none of them malformed.
+-- `put_nodes` writes line by line: before line `i` the area has the nodes of the first `i` lines over what it had, and none of the lines
+-- from `i` on is malformed.
 use mathlib.Core.Path.{sym, _∙_}
 use native.Mathlib.Omega.{arith}
 use Prim.Native.Nat.{_-_}
@@ -30,16 +30,28 @@ enum-told : tie.Need-enum-told Inv-loop μ-loop
 enum-told c = search needs
 
 same-length : tie.Need-same-length Inv-loop μ-loop
-same-length c = written-length _ _ _ _ _ (c .before .before .before .before .loop .inv) (c .before .before .before .before .before .before .pre .1)
+same-length c =
+    let c₁ = c .before .before .before .before in
+    let c₂ = c₁ .before .before in
+    written-length _ _ _ _ _ (c₁ .loop .inv) (c₂ .pre .1)
 
 returns : tie.Need-returns Inv-loop μ-loop
-returns c = absurd (written-bad _ _ _ _ _ (c .before .before .before .before .loop .inv) (c .before .before .before .loop-test .taken) (is-bad _ (sym (c .before .before .read-line .ensures) ∙ c .enum-told .given .1)))
+returns c =
+    let c₁ = c .before .before in
+    let c₂ = c₁ .before in
+    let c₃ = c₂ .before in
+    absurd (written-bad _ _ _ _ _ (c₃ .loop .inv) (c₂ .loop-test .taken) (is-bad _ (sym (c₁ .read-line .ensures) ∙ c .enum-told .given .1)))
 
 mul-put-node : tie.Need-mul-put-node Inv-loop μ-loop
-mul-put-node c = omega (arith, c .before .before .before .before .before .before .loop .inv .within)
+mul-put-node c =
+    let c₁ = c .before .before .before .before .before .before in
+    omega (arith, c₁ .loop .inv .within)
 
 put-node-requires : tie.Need-put-node-requires Inv-loop μ-loop
-put-node-requires c κs = omega (arith, c .before .before .before .before .before .before .loop .inv .within, written-length _ _ _ _ _ (c .before .before .before .before .before .before .loop .inv) (c .before .before .before .before .before .before .before .before .pre .1))
+put-node-requires c κs =
+    let c₁ = c .before .before .before .before .before .before in
+    let c₂ = c₁ .before .before in
+    omega (arith, c₁ .loop .inv .within, written-length _ _ _ _ _ (c₁ .loop .inv) (c₂ .pre .1))
 
 add-i : tie.Need-add-i Inv-loop μ-loop
 add-i c = search needs
@@ -49,8 +61,13 @@ loop-less c = search needs
 
 loop-again : tie.Need-loop-again Inv-loop μ-loop
 loop-again c =
-    written-more _ _ _ _ _ (c .before .before .before .before .before .before .before .before .loop .inv) (c .before .before .before .before .before .before .before .loop-test .taken) _ _ _ _ _ (c .before .before .before .before .before .before .before .before .before .before .pre .1)
-    (is-fields _ _ _ _ _ (sym (c .before .before .before .before .before .before .read-line .ensures) ∙ c .before .before .before .before .kind .given .1))
+    let c₁ = c .before .before .before .before in
+    let c₂ = c₁ .before .before in
+    let c₃ = c₂ .before in
+    let c₄ = c₃ .before in
+    let c₅ = c₄ .before .before in
+    written-more _ _ _ _ _ (c₄ .loop .inv) (c₃ .loop-test .taken) _ _ _ _ _ (c₅ .pre .1)
+    (is-fields _ _ _ _ _ (sym (c₂ .read-line .ensures) ∙ c₁ .kind .given .1))
     (c .before .put-node .ensures)
 
 same-length-2 : tie.Need-same-length-2 Inv-loop μ-loop

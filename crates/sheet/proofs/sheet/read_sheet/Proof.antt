@@ -17,7 +17,10 @@ same-length : tie.Need-same-length
 same-length c = search needs
 
 returns : tie.Need-returns
-returns c = sheet-read _ _ _ (c .before .before .before .before .before .tested .ensures) _ (passed _ _ _ (c .before .before .before .before .before .tested .ensures) (c .before .before .before .if1 .taken)) (c .before .put-nodes .ensures) (c .before .put-nodes .kept .1 .1 .0)
+returns c =
+    let c₁ = c .before .before .before in
+    let c₂ = c₁ .before .before in
+    sheet-read _ _ _ (c₂ .tested .ensures) _ (passed _ _ _ (c₂ .tested .ensures) (c₁ .if1 .taken)) (c .before .put-nodes .ensures) (c .before .put-nodes .kept .1 .1 .0)
 
 returns-2 : tie.Need-returns-2
 returns-2 c = sheet-refused _ _ _ (c .before .before .tested .ensures) (c .if1 .left)
