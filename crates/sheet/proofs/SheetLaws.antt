@@ -304,32 +304,32 @@ module _ (s : List ℕ) (a : List ℤ) (r : Outcome) (o : r ≡ outcome (reading
       none-counted (read n ns) h = absurd (h refl)
 
 -- how far the nodes are written: those of the first i lines, and none of the lines from i on is malformed
-pub record Written (s : List ℕ) (n i : ℕ) (before area : List ℤ) : Type 0 where
+pub record NodesPut (s : List ℕ) (n i : ℕ) (before area : List ℤ) : Type 0 where
   pub within : i ≤ n
   pub size : length (numbers (cut i s)) ≡ i * 4
   pub done : area ≡ over (numbers (cut i s)) before
   pub good : first-malformed (i + 1) (rest s n i) ≡ 0
 
-pub written-none : (s : List ℕ) (n : ℕ) (before : List ℤ) → first-malformed 1 (cut n s) ≡ 0 → Written s n 0 before before
+pub put-none : (s : List ℕ) (n : ℕ) (before : List ℤ) → first-malformed 1 (cut n s) ≡ 0 → NodesPut s n 0 before before
 unfolding cut numbers over
-written-none s n before e = record { within = omega arith; size = refl; done = refl; good = rw (rest-all s n) e }
+put-none s n before e = record { within = omega arith; size = refl; done = refl; good = rw (rest-all s n) e }
 
-module _ (s : List ℕ) (n i : ℕ) (before area : List ℤ) (w : Written s n i before area) where
-  pub written-length : n * 4 ≤ length before → length area ≡ length before
-  written-length h = rw (w .done) (over-length _ _ (omega (arith, w .size, w .within)))
+module _ (s : List ℕ) (n i : ℕ) (before area : List ℤ) (w : NodesPut s n i before area) where
+  pub put-length : n * 4 ≤ length before → length area ≡ length before
+  put-length h = rw (w .done) (over-length _ _ (omega (arith, w .size, w .within)))
 
-  pub written-all : n ≤ i → area ≡ over (numbers (cut n s)) before
-  written-all h = let e : i ≡ n = omega (arith, w .within) in rw (← e) (w .done)
+  pub put-all : n ≤ i → area ≡ over (numbers (cut n s)) before
+  put-all h = let e : i ≡ n = omega (arith, w .within) in rw (← e) (w .done)
 
   module _ (h : i < n) where
-    pub written-bad : line (line-at s i) ≡ none → ⊥
-    written-bad e = let z : i + 1 ≡ 0 = sym (malformed-here s n i h e) ∙ w .good in omega arith
+    pub put-bad : line (line-at s i) ≡ none → ⊥
+    put-bad e = let z : i + 1 ≡ 0 = sym (malformed-here s n i h e) ∙ w .good in omega arith
 
-    pub written-more :
+    pub put-more :
         (k a b c : ℤ) (after : List ℤ) → n * 4 ≤ length before →
         line (line-at s i) ≡ some (record { kind = k; a = a; b = b; c = c }) →
-        after ≡ sets area (i * 4) (kept k ∷ kept a ∷ kept b ∷ kept c ∷ []) → Written s n (i + 1) before after
-    written-more k a b c after m e o =
+        after ≡ sets area (i * 4) (kept k ∷ kept a ∷ kept b ∷ kept c ∷ []) → NodesPut s n (i + 1) before after
+    put-more k a b c after m e o =
         let q = line-kept _ k a b c e in
         let x : numbers (cut (i + 1) s) ≡ numbers (cut i s) ++ (k ∷ a ∷ b ∷ c ∷ []) = rw (add-one i, numbers-more i s, e) in
         record {
