@@ -104,19 +104,17 @@ module _ (f : List ℕ) (at : ℕ) where
       let k : suc at ≡ length f = omega arith in
       rw (drop-cons f at 0, k, drop-length f)
 
-  pub natural-zero : at + 1 < length f → getD f at 0 ≡ 48 → natural (drop at f) ≡ none
-  unfolding natural
-  natural-zero l e =
-      let h : at < length f = omega arith in
-      let k : suc at < length f = omega arith in
-      rw (drop-cons f at 0 h, drop-cons f (suc at) 0 k, eq-eqb _ _ e)
+  module _ (h : at ≤ length f) (n : at ≡ length f → ⊥) (m : at + 1 ≡ length f → ⊥) where
+    two-left : drop at f ≡ getD f at 0 ∷ getD f (suc at) 0 ∷ drop (suc (suc at)) f
+    two-left = drop-cons f at 0 (omega arith) ∙ ap (λ x. getD f at 0 ∷ x) (drop-cons f (suc at) 0 (omega arith))
 
-  pub natural-more : at + 1 < length f → (getD f at 0 ≡ 48 → ⊥) → natural (drop at f) ≡ decimal 0 (drop at f)
-  unfolding natural
-  natural-more l e =
-      let h : at < length f = omega arith in
-      let k : suc at < length f = omega arith in
-      rw (drop-cons f at 0 h, drop-cons f (suc at) 0 k, ne-eqb _ _ e)
+    pub natural-zero : getD f at 0 ≡ 48 → natural (drop at f) ≡ none
+    unfolding natural
+    natural-zero e = rw (two-left, eq-eqb _ _ e)
+
+    pub natural-more : (getD f at 0 ≡ 48 → ⊥) → natural (drop at f) ≡ decimal 0 (drop at f)
+    unfolding natural
+    natural-more e = rw (two-left, ne-eqb _ _ e)
 
 -- the whole field, from where the spaces end
 module _ (f : List ℕ) (at : ℕ) (e : drop at f ≡ behind-spaces f) where

@@ -6,9 +6,9 @@ use native.Mathlib.Numerals.{add-one}
 use mathlib.Core.Path.{_≡_, refl, sym, ap, _∙_}
 use mathlib.Core.Bool.{Bool, true, false, cond}
 use mathlib.Core.List.{List, [], _∷_, _++_, append-assoc, append-nil}
-use lib.Dec.{ltb, leb, eqb}
-use lib.ListN.{length, getD, take, drop, set, replicate, length-append, length-replicate, take-append-drop}
-use lib.Seq.{sets, length-sets, set-comm, take-suc, take-all}
+use lib.Dec.{ltb, leb}
+use lib.ListN.{length, getD, take, drop, set, replicate, length-append, length-set, length-replicate, take-append-drop}
+use lib.Seq.{length-take-le, sets, length-sets, set-comm, take-suc, take-all}
 use borrow.Author.Tests.{lt-ltb, le-ltb, le-leb, lt-leb, eq-eqb, ne-eqb}
 use Rattle.engine.specs.declared.state.Outcome.{Outcome}
 use Rattle.sheet.specs.Area.{over}
@@ -188,12 +188,16 @@ module _ (ns before area : List ℕ) (at i : ℕ) (s : Filled ns before area at 
   pub filled-room : i < length ns → at + length (six (getD ns i 0)) ≤ length area
   filled-room h = omega (arith, filled-length, s .place, fields-part ns (i + 1), fields-size ns i h)
 
-  pub filled-more : (after : List ℕ) (next : ℕ) → i < length ns → after ≡ sets area at (six (getD ns i 0)) → next ≡ at + length (six (getD ns i 0)) → Filled ns before after next (i + 1)
+  pub filled-more :
+      (after : List ℕ) (next : ℕ) → i < length ns → after ≡ sets area at (six (getD ns i 0)) →
+      next ≡ at + length (six (getD ns i 0)) → Filled ns before after next (i + 1)
   filled-more after next h e f =
       record {
         within = omega arith;
         place = omega (arith, s .place, fields-size ns i h);
-        wrote = rw (e, s .wrote, fields-more ns i h) (over-more (fields (take i ns)) (six (getD ns i 0)) before at (sym (s .place)) (omega (arith, filled-length, filled-room h)));
+        wrote =
+            rw (e, s .wrote, fields-more ns i h)
+            (over-more (fields (take i ns)) (six (getD ns i 0)) before at (sym (s .place)) (omega (arith, filled-length, filled-room h)));
       }
 
   module _ (h : length ns ≤ i) where
@@ -204,9 +208,12 @@ module _ (ns before area : List ℕ) (at i : ℕ) (s : Filled ns before area at 
     unfolding line-text
     filled-line =
         let p : at ≡ length (fields ns) = rw (← fields-all ns i h) (s .place) in
+        let w : at + 1 ≤ length (set area at 10) = simp length-set (omega (arith, filled-end)) in
         record {
           count = rw (length-append (fields ns) (10 ∷ [])) (omega arith);
           area = rw (s .wrote, fields-all ns i h) (over-more (fields ns) (10 ∷ []) before at (sym p) (omega arith));
+          within = w;
+          part = sym (length-take-le (at + 1) (set area at 10) w);
         }
 
 -- the text of a line, and none of it
@@ -219,9 +226,11 @@ unfolding whole line-text
 whole-none ns area h = rw (lt-leb (length (fields ns ++ (10 ∷ []))) (length area) (simp length-append (omega arith)))
 
 pub written-none : (area : List ℕ) → Written [] area area 0
-written-none area = record { count = refl; area = sym (over-none area) }
+written-none area = record { count = refl; area = sym (over-none area); within = omega arith; part = refl }
 
-pub written-whole : (ns before after : List ℕ) (r : ℕ) → length (fields ns) < length before → Written (line-text ns) before after r → Written (whole before (line-text ns)) before after r
+pub written-whole :
+    (ns before after : List ℕ) (r : ℕ) → length (fields ns) < length before →
+    Written (line-text ns) before after r → Written (whole before (line-text ns)) before after r
 written-whole ns before after r h w = rw (whole-line ns before h) w
 
 pub written-short : (ns area : List ℕ) → length area ≤ length (fields ns) → Written (whole area (line-text ns)) area area 0

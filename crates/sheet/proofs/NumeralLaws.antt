@@ -11,8 +11,8 @@ use lib.IntN.{ℤ, pos, negsuc}
 use lib.ListN.{length, getD, replicate, length-append, length-replicate, List·getD-append}
 use mir.Syntax.{w32}
 use mir.Val.{SFits}
-use borrow.Author.Tests.{ltb-true, ltb-false, leb-true, leb-false, eqb-true, eqb-false, lt-ltb, le-ltb, le-leb, lt-leb, eq-eqb, ne-eqb}
-use Rattle.sheet.specs.Field.{and-then, behind-spaces, digit, decimal, natural, positive, negative, signed, field}
+use borrow.Author.Tests.{ltb-true, ltb-false, leb-true, eqb-true, eqb-false, lt-ltb, le-ltb, le-leb, ne-eqb}
+use Rattle.sheet.specs.Field.{behind-spaces, digit, decimal, natural, positive, negative, signed, field}
 use Rattle.sheet.specs.Numeral.{spelled, numeral, signed-numeral, justified, field-text}
 use Rattle.sheet.proofs.FieldLaws.{then-some, digit-small}
 
@@ -83,7 +83,9 @@ unfolding spelled
 leads-by zero n h = absurd (omega arith)
 leads-by (suc k) n h = go (ltb n 10) refl (λ t. leads-by k (n / 10) (omega arith))
   where
-    go : (b : Bool) → ltb n 10 ≡ b → (10 ≤ n → Leads (n / 10) (spelled k (n / 10))) → Leads n (cond b ((48 + n) ∷ []) (spelled k (n / 10) ++ ((48 + n % 10) ∷ [])))
+    go :
+        (b : Bool) → ltb n 10 ≡ b → (10 ≤ n → Leads (n / 10) (spelled k (n / 10))) →
+        Leads n (cond b ((48 + n) ∷ []) (spelled k (n / 10) ++ ((48 + n % 10) ∷ [])))
     go true e f = record { some-digit = omega arith; low = omega arith; nonzero = λ z. omega arith }
     go false e f = let t = ltb-false n 10 e in leads-more (n / 10) n (48 + n % 10) (spelled k (n / 10)) (omega arith) (f t)
 
@@ -104,7 +106,9 @@ unfolding spelled decimal
 decimal-by zero n h = absurd (omega arith)
 decimal-by (suc k) n h = go (ltb n 10) refl (λ t. decimal-by k (n / 10) (omega arith))
   where
-    go : (b : Bool) → ltb n 10 ≡ b → (10 ≤ n → decimal 0 (spelled k (n / 10)) ≡ some (n / 10)) → decimal 0 (cond b ((48 + n) ∷ []) (spelled k (n / 10) ++ ((48 + n % 10) ∷ []))) ≡ some n
+    go :
+        (b : Bool) → ltb n 10 ≡ b → (10 ≤ n → decimal 0 (spelled k (n / 10)) ≡ some (n / 10)) →
+        decimal 0 (cond b ((48 + n) ∷ []) (spelled k (n / 10) ++ ((48 + n % 10) ∷ []))) ≡ some n
     go true e f = rw (digit-of n (ltb-true n 10 e)) (ap some (omega arith))
     go false e f =
         let t = ltb-false n 10 e in
@@ -209,7 +213,9 @@ of-negative none v e = let z : _≡_ {A = ℕ} 0 1 = cc in absurd (omega arith)
 of-negative (some zero) v e = let z : _≡_ {A = ℕ} 0 1 = cc in absurd (omega arith)
 of-negative (some (suc n)) v e = go (ltb n 2147483648) e
   where
-    go : (b : Bool) → _≡_ {A = Option ℤ} (cond b (some (negsuc n)) none) (some v) → (m : ℕ) × (_≡_ {A = Option ℕ} (some (suc n)) (some (suc m))) × (v ≡ negsuc m)
+    go :
+        (b : Bool) → _≡_ {A = Option ℤ} (cond b (some (negsuc n)) none) (some v) →
+        (m : ℕ) × (_≡_ {A = Option ℕ} (some (suc n)) (some (suc m))) × (v ≡ negsuc m)
     go true e = (n, refl, cc)
     go false e = let z : _≡_ {A = ℕ} 0 1 = cc in absurd (omega arith)
 
@@ -226,29 +232,37 @@ signed-spelled (b ∷ s) v e = go (eqb b 45) refl e
         let p = of-positive (natural (b ∷ s)) v e in
         rw (p .2) (natural-spelled (b ∷ s) (p .0) (p .1))
 
--- the spaces that were passed
-spaces-back : (t : List ℕ) → (length (behind-spaces t) ≤ length t) × (replicate (length t - length (behind-spaces t)) 32 ++ behind-spaces t ≡ t)
+-- the spaces that were passed: `rest` is what stands behind the spaces of t
+record Padded (t rest : List ℕ) : Type 0 where
+  fewer : length rest ≤ length t
+  whole : replicate (length t - length rest) 32 ++ rest ≡ t
+
+padded-none : (t : List ℕ) → Padded t t
+padded-none t =
+    let e : length t - length t ≡ 0 = omega arith in
+    record { fewer = omega arith; whole = rw e }
+
+padded-more : (b : ℕ) (t rest : List ℕ) → b ≡ 32 → Padded t rest → Padded (b ∷ t) rest
+padded-more b t rest e p =
+    let k : suc (length t) - length rest ≡ suc (length t - length rest) = omega (arith, p .fewer) in
+    record { fewer = omega (arith, p .fewer); whole = rw (k, p .whole, e) }
+
+padded : (t : List ℕ) → Padded t (behind-spaces t)
 unfolding behind-spaces
-spaces-back [] = (omega arith, refl)
-spaces-back (b ∷ t) = go (eqb b 32) refl (spaces-back t)
+padded [] = padded-none []
+padded (b ∷ t) = go (eqb b 32) refl (padded t)
   where
-    go :
-        (x : Bool) → eqb b 32 ≡ x → (length (behind-spaces t) ≤ length t) × (replicate (length t - length (behind-spaces t)) 32 ++ behind-spaces t ≡ t) →
-        (length (cond x (behind-spaces t) (b ∷ t)) ≤ suc (length t)) × (replicate (suc (length t) - length (cond x (behind-spaces t) (b ∷ t))) 32 ++ cond x (behind-spaces t) (b ∷ t) ≡ b ∷ t)
-    go true h i =
-        let k : suc (length t) - length (behind-spaces t) ≡ suc (length t - length (behind-spaces t)) = omega (arith, i .0) in
-        (omega (arith, i .0), rw (k, i .1, eqb-true b 32 h))
-    go false h i =
-        let k : suc (length t) - suc (length t) ≡ 0 = omega arith in
-        (omega arith, rw k)
+    go : (x : Bool) → eqb b 32 ≡ x → Padded t (behind-spaces t) → Padded (b ∷ t) (cond x (behind-spaces t) (b ∷ t))
+    go true h p = padded-more b t (behind-spaces t) (eqb-true b 32 h) p
+    go false h p = padded-none (b ∷ t)
 
 -- A field that reads as v has the text that is written for v: each number has one text in a field of each width.
 pub written-read : (t : List ℕ) (v : ℤ) → field t ≡ some v → field-text (length t) v ≡ some t
 unfolding field field-text justified
 written-read t v e =
-    let p = spaces-back t in
+    let p = padded t in
     let q = signed-spelled (behind-spaces t) v e in
-    rw (q, le-leb _ _ (p .0), p .1)
+    rw (q, le-leb _ _ (p .fewer), p .whole)
 
 pub one-text : (t u : List ℕ) (v : ℤ) → length t ≡ length u → field t ≡ some v → field u ≡ some v → t ≡ u
 one-text t u v l e f = Option·some-injective t u (sym (written-read t v e) ∙ rw l (written-read u v f))

@@ -1,15 +1,15 @@
 -- The definitions of specs/Sheet.antt taken one line at a time: line i stands at byte i * 41, and what lies behind it is the rest of
 -- the lines. Then an area that is written from its start, and a line by its four fields.
-use Prim.Native.Nat.{ℕ, zero, suc, _+_, _-_, _*_, _/_, _%_, _≤_, _<_}
+use Prim.Native.Nat.{ℕ, zero, suc, _+_, _-_, _*_, _%_, _≤_, _<_}
 use native.Mathlib.Omega.{arith}
 use native.Mathlib.Numerals.{add-one}
 use mathlib.Core.Path.{_≡_, refl, sym, ap, _∙_}
-use mathlib.Core.Bool.{Bool, true, false, cond, _&&_}
+use mathlib.Core.Bool.{Bool, true, false, _&&_}
 use mathlib.Core.List.{List, [], _∷_, _++_, append-assoc, append-nil}
 use mathlib.Core.Option.{Option, none, some, Option·some-injective}
 use lib.Dec.{ltb, leb, eqb}
 use lib.IntN.{ℤ}
-use lib.ListN.{length, getD, take, drop, set, length-append, length-take, length-drop}
+use lib.ListN.{length, getD, take, drop, set, length-append, length-drop}
 use lib.Seq.{drop-drop, getD-take, getD-drop, take-take, take-add, take-at, drop-at, length-take-le, drop-append-add, sets, sets-eq}
 use mir.Syntax.{w32}
 use mir.Val.{SFits, toZ, ofZ}
@@ -21,9 +21,7 @@ use Rattle.sheet.specs.Field.{and-then, field}
 use Rattle.sheet.specs.Sheet.{cut, count, lines, ended, lined, Node, columns, line, first-malformed, four, numbers, Reading, refused, read, reading, outcome, area-after, SheetRead}
 use Rattle.sheet.specs.Answers.{field-of, line-of}
 use Rattle.sheet.proofs.FieldLaws.{then-some, field-back}
-use Rattle.sheet.specs.declared.field.Field.{Field}
 use Rattle.sheet.specs.declared.field.Field.the-variants.{Number, Malformed}
-use Rattle.sheet.specs.declared.sheet.Line.{Line}
 use Rattle.sheet.specs.declared.sheet.Line.the-variants.{Fields, Bad}
 
 -- line i, counted from 0, and the lines from i on, of n
@@ -85,7 +83,9 @@ numbers-more (suc i) s =
     ap (λ x. four (line (take 41 s)) ++ x) (numbers-more i (drop 41 s)) ∙ rw (drop-drop (i * 41) 41 s, d, append-assoc)
 
 -- writing behind what is written already
-pub over-more : {A : Type 0} (pre new area : List A) (at : ℕ) → length pre ≡ at → at + length new ≤ length area → sets (over pre area) at new ≡ over (pre ++ new) area
+pub over-more :
+    {A : Type 0} (pre new area : List A) (at : ℕ) → length pre ≡ at → at + length new ≤ length area →
+    sets (over pre area) at new ≡ over (pre ++ new) area
 unfolding over
 over-more pre new area at e h =
     sets-eq new (pre ++ drop (length pre) area) at (simp (length-append, length-drop) (omega arith))
@@ -118,7 +118,9 @@ module _ (s : List ℕ) (at : ℕ) (h : at + 41 ≤ length s) where
   columns-at : (f w : ℕ) → f + w ≤ 41 → columns f w (take 41 (drop at s)) ≡ take w (drop (at + f) s)
   columns-at f w k =
       let e : 41 ≡ f + (41 - f) = omega arith in
-      rw (e, take-add f (41 - f) (drop at s), drop-at (take f (drop at s)) _ f (length-take-le f (drop at s) (simp length-drop (omega arith))), drop-drop) (take-take w (41 - f) (drop (at + f) s) (omega arith))
+      let l : length (take f (drop at s)) ≡ f = length-take-le f (drop at s) (simp length-drop (omega arith)) in
+      rw (e, take-add f (41 - f) (drop at s), drop-at (take f (drop at s)) _ f l, drop-drop)
+      (take-take w (41 - f) (drop (at + f) s) (omega arith))
 
   by-parts :
       line (take 41 (drop at s)) ≡
@@ -151,7 +153,9 @@ module _ (s : List ℕ) (at : ℕ) (h : at + 41 ≤ length s) where
         unfolding line-of
         line-bad-c m = rw (by-parts, e, f, g, m)
 
-        pub line-good : (c : ℤ) → field (take 12 (drop (at + 28) s)) ≡ some c → Fields (kept k) (kept a) (kept b) (kept c) ≡ line-of (line (take 41 (drop at s)))
+        pub line-good :
+            (c : ℤ) → field (take 12 (drop (at + 28) s)) ≡ some c →
+            Fields (kept k) (kept a) (kept b) (kept c) ≡ line-of (line (take 41 (drop at s)))
         unfolding line-of
         line-good c m = rw (by-parts, e, f, g, m, field-back _ k e, field-back _ a f, field-back _ b g, field-back _ c m)
 
@@ -172,7 +176,9 @@ is-bad none e = refl
 is-bad (some n) e = cc
 
 -- the machine hands the four numbers of a line on as they are
-pub line-kept : (l : List ℕ) (k a b c : ℤ) → line l ≡ some (record { kind = k; a = a; b = b; c = c }) → (kept k ≡ k) × (kept a ≡ a) × (kept b ≡ b) × (kept c ≡ c)
+pub line-kept :
+    (l : List ℕ) (k a b c : ℤ) → line l ≡ some (record { kind = k; a = a; b = b; c = c }) →
+    (kept k ≡ k) × (kept a ≡ a) × (kept b ≡ b) × (kept c ≡ c)
 unfolding line
 line-kept l k a b c e =
     let p = then-some (field (columns 0 4 l)) _ _ e in
@@ -187,7 +193,9 @@ line-kept l k a b c e =
     )
 
 -- four numbers written one behind the other
-pub put-four : (l : List ℤ) (at : ℕ) (k a b c : ℤ) → SFits w32 k → SFits w32 a → SFits w32 b → SFits w32 c → set (set (set (set l at (kept k)) (at + 1) (kept a)) (at + 2) (kept b)) (at + 3) (kept c) ≡ sets l at (k ∷ a ∷ b ∷ c ∷ [])
+pub put-four :
+    (l : List ℤ) (at : ℕ) (k a b c : ℤ) → SFits w32 k → SFits w32 a → SFits w32 b → SFits w32 c →
+    set (set (set (set l at (kept k)) (at + 1) (kept a)) (at + 2) (kept b)) (at + 3) (kept c) ≡ sets l at (k ∷ a ∷ b ∷ c ∷ [])
 put-four l at k a b c fk fa fb fc =
     let e : at + 1 ≡ suc at = omega arith in
     let f : at + 2 ≡ suc (suc at) = omega arith in
@@ -275,40 +283,53 @@ passed s room r o e = by-lined (lined s) refl
 
 -- what becomes of the area
 module _ (s : List ℕ) (a : List ℤ) (r : Outcome) (o : r ≡ outcome (reading s (length a))) where
-  pub sheet-read : (b : List ℤ) → Passed s (length a) → b ≡ over (numbers (lines s)) a → SheetRead s a b r
-  sheet-read b p e = record { answer = o; area = rw (p .all) e }
+  pub sheet-read : (b : List ℤ) → Passed s (length a) → b ≡ over (numbers (lines s)) a → length b ≡ length a → SheetRead s a b r
+  sheet-read b p e l =
+      let c : r .count ≡ count s = ap (λ y. y .count) o ∙ ap (λ y. (outcome y) .count) (p .all) in
+      let w : r .count * 4 ≤ length b = rw (c, l) (p .fits) in
+      record { answer = o; area = rw (p .all) e; within = w; part = sym (length-take-le (r .count * 4) b w) }
 
   pub sheet-refused : (r .number ≡ 0 → ⊥) → SheetRead s a a r
-  sheet-refused z = record { answer = o; area = left (reading s (length a)) (λ e. z (ap (λ y. y .number) o ∙ e)) }
+  sheet-refused z =
+      let n : (outcome (reading s (length a))) .number ≡ 0 → ⊥ = λ e. z (ap (λ y. y .number) o ∙ e) in
+      let c : r .count ≡ 0 = ap (λ y. y .count) o ∙ none-counted (reading s (length a)) n in
+      record { answer = o; area = left (reading s (length a)) n; within = rw c (omega arith); part = rw c }
     where
       left : (x : Reading) → ((outcome x) .number ≡ 0 → ⊥) → a ≡ area-after x a
       left (refused n p) h = refl
       left (read n ns) h = absurd (h refl)
 
+      none-counted : (x : Reading) → ((outcome x) .number ≡ 0 → ⊥) → (outcome x) .count ≡ 0
+      none-counted (refused n p) h = refl
+      none-counted (read n ns) h = absurd (h refl)
+
 -- how far the nodes are written: those of the first i lines, and none of the lines from i on is malformed
-pub record Written (s : List ℕ) (n i : ℕ) (before area : List ℤ) : Type 0 where
+pub record NodesPut (s : List ℕ) (n i : ℕ) (before area : List ℤ) : Type 0 where
   pub within : i ≤ n
   pub size : length (numbers (cut i s)) ≡ i * 4
   pub done : area ≡ over (numbers (cut i s)) before
   pub good : first-malformed (i + 1) (rest s n i) ≡ 0
 
-pub written-none : (s : List ℕ) (n : ℕ) (before : List ℤ) → first-malformed 1 (cut n s) ≡ 0 → Written s n 0 before before
+pub put-none : (s : List ℕ) (n : ℕ) (before : List ℤ) → first-malformed 1 (cut n s) ≡ 0 → NodesPut s n 0 before before
 unfolding cut numbers over
-written-none s n before e = record { within = omega arith; size = refl; done = refl; good = rw (rest-all s n) e }
+put-none s n before e = record { within = omega arith; size = refl; done = refl; good = rw (rest-all s n) e }
 
-module _ (s : List ℕ) (n i : ℕ) (before area : List ℤ) (w : Written s n i before area) where
-  pub written-length : n * 4 ≤ length before → length area ≡ length before
-  written-length h = rw (w .done) (over-length _ _ (omega (arith, w .size, w .within)))
+module _ (s : List ℕ) (n i : ℕ) (before area : List ℤ) (w : NodesPut s n i before area) where
+  pub put-length : n * 4 ≤ length before → length area ≡ length before
+  put-length h = rw (w .done) (over-length _ _ (omega (arith, w .size, w .within)))
 
-  pub written-all : n ≤ i → area ≡ over (numbers (cut n s)) before
-  written-all h = let e : i ≡ n = omega (arith, w .within) in rw (← e) (w .done)
+  pub put-all : n ≤ i → area ≡ over (numbers (cut n s)) before
+  put-all h = let e : i ≡ n = omega (arith, w .within) in rw (← e) (w .done)
 
   module _ (h : i < n) where
-    pub written-bad : line (line-at s i) ≡ none → ⊥
-    written-bad e = let z : i + 1 ≡ 0 = sym (malformed-here s n i h e) ∙ w .good in omega arith
+    pub put-bad : line (line-at s i) ≡ none → ⊥
+    put-bad e = let z : i + 1 ≡ 0 = sym (malformed-here s n i h e) ∙ w .good in omega arith
 
-    pub written-more : (k a b c : ℤ) (after : List ℤ) → n * 4 ≤ length before → line (line-at s i) ≡ some (record { kind = k; a = a; b = b; c = c }) → after ≡ sets area (i * 4) (kept k ∷ kept a ∷ kept b ∷ kept c ∷ []) → Written s n (i + 1) before after
-    written-more k a b c after m e o =
+    pub put-more :
+        (k a b c : ℤ) (after : List ℤ) → n * 4 ≤ length before →
+        line (line-at s i) ≡ some (record { kind = k; a = a; b = b; c = c }) →
+        after ≡ sets area (i * 4) (kept k ∷ kept a ∷ kept b ∷ kept c ∷ []) → NodesPut s n (i + 1) before after
+    put-more k a b c after m e o =
         let q = line-kept _ k a b c e in
         let x : numbers (cut (i + 1) s) ≡ numbers (cut i s) ++ (k ∷ a ∷ b ∷ c ∷ []) = rw (add-one i, numbers-more i s, e) in
         record {

@@ -1,10 +1,10 @@
 -- What planread prints. Document 01, "Sheet and listing": "It prints lines of fields six wide".
-use Prim.Native.Nat.{ℕ, zero, suc, _+_, _*_}
+use Prim.Native.Nat.{ℕ, zero, suc, _+_, _*_, _≤_}
 use mathlib.Core.Path.{_≡_}
 use mathlib.Core.Bool.{cond}
 use mathlib.Core.List.{List, [], _∷_, _++_}
 use lib.Dec.{ltb, leb, eqb}
-use lib.ListN.{length, getD}
+use lib.ListN.{length, getD, take}
 use Rattle.engine.specs.declared.state.Outcome.{Outcome}
 use Rattle.sheet.specs.Area.{over}
 use Rattle.sheet.specs.Numeral.{numeral, justified}
@@ -49,7 +49,10 @@ listing-line o tokens report (suc k) = later-line o tokens report k
 unfoldable pub whole : (area text : List ℕ) → List ℕ
 whole area text = cond (leb (length text) (length area)) text []
 
--- `text` was written at the area's start, and r is how many bytes that are.
+-- `text` was written at the area's start, and r is how many bytes that are. The last two parts follow; they are what a caller needs who
+-- lends just those bytes.
 pub record Written (text before after : List ℕ) (r : ℕ) : Type 0 where
   pub count : r ≡ length text
   pub area : after ≡ over text before
+  pub within : r ≤ length after
+  pub part : r ≡ length (take r after)

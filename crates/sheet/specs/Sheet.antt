@@ -1,5 +1,5 @@
 -- Reading a sheet. Document 01, "Sheet and listing" and rows 1 to 3 of "Stops and refusals".
-use Prim.Native.Nat.{ℕ, zero, suc, _*_, _/_, _%_}
+use Prim.Native.Nat.{ℕ, zero, suc, _*_, _/_, _%_, _≤_}
 use mathlib.Core.Path.{_≡_}
 use mathlib.Core.Bool.{Bool, true, false, cond, not, _&&_}
 use mathlib.Core.List.{List, [], _∷_, _++_}
@@ -90,7 +90,10 @@ abbrev pub area-after : Reading → List ℤ → List ℤ
 area-after (refused n p) area = area
 area-after (read k ns) area = over ns area
 
--- What `read_sheet` promises of its answer and of the node area.
+-- What `read_sheet` promises of its answer and of the node area. The last two parts follow; they are what a caller needs who lends just
+-- the nodes.
 pub record SheetRead (sheet : List ℕ) (before after : List ℤ) (r : Outcome) : Type 0 where
   pub answer : r ≡ outcome (reading sheet (length before))
   pub area : after ≡ area-after (reading sheet (length before)) before
+  pub within : r .count * 4 ≤ length after
+  pub part : r .count * 4 ≡ length (take (r .count * 4) after)

@@ -1,5 +1,6 @@
 // Runs read_sheet on good and broken sheets, and writes a line for each: its name, number, place and count, and the node area.
 use engine::state::Outcome;
+use sheet::listing::write_listing_line;
 use sheet::sheet::read_sheet;
 
 const OUT: i32 = 1;
@@ -229,6 +230,62 @@ fn order() {
     );
 }
 
+fn put_line(o: Outcome, tokens: &[u32], report: &[u32], k: u32, out: &mut [u8]) {
+    let n = write_listing_line(o, tokens, report, k, out);
+    io::write_all(OUT, &out[..n]);
+}
+
+fn put_name(name: &[u8]) {
+    io::write_all(OUT, name);
+    io::write_all(OUT, b":\n");
+}
+
+// A listing, line by line, as planread prints it: the head and as many lines as the count says.
+fn list(name: &[u8], o: Outcome, tokens: &[u32], report: &[u32], out: &mut [u8]) {
+    put_name(name);
+    let last = o.count as u64;
+    let mut k: u64 = 0;
+    while k <= last {
+        put_line(o, tokens, report, k as u32, out);
+        k += 1;
+    }
+}
+
+// Document 01's example, a report of two positives and a negative, a refusal, and numbers of more than six digits.
+fn listings() {
+    let mut out = [0u8; 61];
+    let none = [0u32; 1];
+    let tokens = [1u32, 1, 0, 0, 0, 2, 0, 1, 7, 3];
+    let parsed = Outcome {
+        number: 0,
+        place: 0,
+        count: 2,
+    };
+    list(b"parsed", parsed, &tokens, &none, &mut out);
+    let report = [4u32, 2, 1, 7, 12, 7];
+    let failed = Outcome {
+        number: 10,
+        place: 4,
+        count: 3,
+    };
+    list(b"failed", failed, &none, &report, &mut out);
+    let stopped = Outcome {
+        number: 13,
+        place: 3,
+        count: 0,
+    };
+    list(b"stopped", stopped, &tokens, &report, &mut out);
+    let large = Outcome {
+        number: 999999,
+        place: 1000000,
+        count: 4294967295,
+    };
+    put_name(b"wide");
+    put_line(large, &tokens, &report, 0, &mut out);
+    let mut short = [0u8; 18];
+    list(b"area too short", parsed, &tokens, &report, &mut short);
+}
+
 fn main() {
     example();
     broken();
@@ -240,4 +297,5 @@ fn main() {
     forty();
     most();
     one_too_many();
+    listings();
 }

@@ -1,8 +1,5 @@
 -- `number` goes by how many bytes are left, as `natural` does.
-use mathlib.Core.Path.{_≡_, refl, sym, ap, _∙_}
-use native.Mathlib.Omega.{arith}
-use Prim.Native.Nat.{_+_, _<_}
-use lib.ListN.{length}
+use mathlib.Core.Path.{sym, ap, _∙_}
 use Rattle.sheet.specs.Answers.{digits-of}
 use Rattle.sheet.proofs.FieldLaws.{natural-none, natural-one, natural-zero, natural-more}
 use borrow.Author.Needs.{needs}
@@ -28,18 +25,20 @@ shared-slice-read-if3 c = search needs
 returns-3 : tie.Need-returns-3
 unfolding digits-of
 returns-3 c =
-    let a = c .before .before .before .before .before .args in
-    let l : a .at + 1 < length (a .f .now) = omega (arith, c .before .before .if2 .left, c .before .before .before .if1 .left) in
-    sym (ap digits-of (natural-zero _ _ l (c .if3 .taken)))
+    let c₁ = c .before .before in
+    let c₂ = c₁ .before in
+    let c₃ = c₂ .before .before in
+    sym (ap digits-of (natural-zero _ _ (c₃ .pre .0) (c₂ .if1 .left) (c₁ .if2 .left) (c .if3 .taken)))
 
 value-requires-2 : tie.Need-value-requires-2
 value-requires-2 c κs = search needs
 
 returns-4 : tie.Need-returns-4
 returns-4 c =
-    let a = c .before .before .before .before .before .before .args in
-    let l : a .at + 1 < length (a .f .now) = omega (arith, c .before .before .before .if2 .left, c .before .before .before .before .if1 .left) in
-    c .value2 .ensures ∙ sym (ap digits-of (natural-more _ _ l (c .before .if3 .left)))
+    let c₁ = c .before .before .before in
+    let c₂ = c₁ .before in
+    let c₃ = c₂ .before .before in
+    c .value2 .ensures ∙ sym (ap digits-of (natural-more _ _ (c₃ .pre .0) (c₂ .if1 .left) (c₁ .if2 .left) (c .before .if3 .left)))
 
 pub number-spec : {M : Type 1} → statement M
 number-spec =

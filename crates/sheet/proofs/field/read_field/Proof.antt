@@ -1,5 +1,5 @@
 -- `read_field` follows `field` from where the spaces end: a minus and the number behind it, or the number.
-use mathlib.Core.Path.{_≡_, refl, sym, ap, _∙_}
+use mathlib.Core.Path.{sym, ap, _∙_}
 use native.Mathlib.Omega.{arith}
 use Prim.Native.Nat.{_<_}
 use lib.ListN.{length}
@@ -31,11 +31,15 @@ minus-requires c κs = search needs
 
 returns-2 : tie.Need-returns-2
 returns-2 c =
-    let a = c .before .before .before .before .before .before .before .args in
-    let l : c .before .before .before .before .before .spaces .result < length (a .f .now) = omega (arith, c .before .before .before .before .if1 .left, c .before .before .before .before .before .spaces .ensures .0) in
+    let c₁ = c .before .before in
+    let c₂ = c₁ .before .before in
+    let c₃ = c₂ .before in
+    let c₄ = c₃ .before .before in
+    let a = c₄ .args in
+    let l : c₃ .spaces .result < length (a .f .now) = omega (arith, c₂ .if1 .left, c₃ .spaces .ensures .0) in
     c .minus .ensures
     ∙ through negative _ _ (c .before .number .ensures)
-    ∙ sym (ap field-of (field-minus _ _ (c .before .before .before .before .before .spaces .ensures .1) l (c .before .before .if2 .taken)))
+    ∙ sym (ap field-of (field-minus _ _ (c₃ .spaces .ensures .1) l (c₁ .if2 .taken)))
 
 number-requires-2 : tie.Need-number-requires-2
 number-requires-2 c κs = search needs
@@ -45,11 +49,15 @@ plus-requires c κs = search needs
 
 returns-3 : tie.Need-returns-3
 returns-3 c =
-    let a = c .before .before .before .before .before .before .before .args in
-    let l : c .before .before .before .before .before .spaces .result < length (a .f .now) = omega (arith, c .before .before .before .before .if1 .left, c .before .before .before .before .before .spaces .ensures .0) in
+    let c₁ = c .before .before in
+    let c₂ = c₁ .before .before in
+    let c₃ = c₂ .before in
+    let c₄ = c₃ .before .before in
+    let a = c₄ .args in
+    let l : c₃ .spaces .result < length (a .f .now) = omega (arith, c₂ .if1 .left, c₃ .spaces .ensures .0) in
     c .plus .ensures
     ∙ through positive _ _ (c .before .number2 .ensures)
-    ∙ sym (ap field-of (field-plus _ _ (c .before .before .before .before .before .spaces .ensures .1) l (c .before .before .if2 .left)))
+    ∙ sym (ap field-of (field-plus _ _ (c₃ .spaces .ensures .1) l (c₁ .if2 .left)))
 
 pub read-field-spec : {M : Type 1} → statement M
 read-field-spec =

@@ -1,5 +1,5 @@
 -- `spaces` stands where the spaces end: what is behind the spaces from `i` on is what is behind them in the whole field.
-use mathlib.Core.Path.{_≡_, refl, sym, ap, _∙_}
+use mathlib.Core.Path.{_≡_, refl, sym, _∙_}
 use native.Mathlib.Omega.{arith}
 use Prim.Native.Nat.{_-_, _≤_}
 use lib.ListN.{length, drop}

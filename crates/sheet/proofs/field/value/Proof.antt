@@ -35,13 +35,23 @@ enum-told c = search needs
 
 returns : tie.Need-returns Inv-loop μ-loop
 unfolding digits-of
-returns c = sym (ap digits-of (c .before .before .before .before .before .loop .inv .2 ∙ decimal-other _ _ (c .before .before .before .before .loop-test .taken) _ (is-other _ (sym (c .before .before .digit-of .ensures) ∙ c .enum-told .given .1))))
+returns c =
+    let c₁ = c .before .before in
+    let c₂ = c₁ .before .before in
+    let c₃ = c₂ .before in
+    sym (ap digits-of (c₃ .loop .inv .2 ∙ decimal-other _ _ (c₂ .loop-test .taken) _ (is-other _ (sym (c₁ .digit-of .ensures) ∙ c .enum-told .given .1))))
 
 mul-n : tie.Need-mul-n Inv-loop μ-loop
-mul-n c = omega (arith, pow-room (c .before .before .before .before .before .before .loop .i) (omega arith), digit-small _ _ (is-value _ _ (sym (c .before .before .before .digit-of .ensures) ∙ c .before .d .given .1)))
+mul-n c =
+    let c₁ = c .before .before .before in
+    let c₂ = c₁ .before .before .before in
+    omega (arith, pow-room (c₂ .loop .i) (omega arith), digit-small _ _ (is-value _ _ (sym (c₁ .digit-of .ensures) ∙ c .before .d .given .1)))
 
 add-n : tie.Need-add-n Inv-loop μ-loop
-add-n c = omega (arith, pow-room (c .before .before .before .before .before .before .loop .i) (omega arith), digit-small _ _ (is-value _ _ (sym (c .before .before .before .digit-of .ensures) ∙ c .before .d .given .1)))
+add-n c =
+    let c₁ = c .before .before .before in
+    let c₂ = c₁ .before .before .before in
+    omega (arith, pow-room (c₂ .loop .i) (omega arith), digit-small _ _ (is-value _ _ (sym (c₁ .digit-of .ensures) ∙ c .before .d .given .1)))
 
 add-i : tie.Need-add-i Inv-loop μ-loop
 add-i c = search needs
@@ -51,10 +61,14 @@ loop-less c = search needs
 
 loop-again : tie.Need-loop-again Inv-loop μ-loop
 loop-again c =
-    let e : digit (getD (c .before .before .before .before .before .before .before .before .args .f .now) (c .before .before .before .before .before .before .loop .i) 0) ≡ some (c .before .d .given .0 .0) = is-value _ _ (sym (c .before .before .before .digit-of .ensures) ∙ c .before .d .given .1) in (
+    let c₁ = c .before .before .before in
+    let c₂ = c₁ .before .before in
+    let c₃ = c₂ .before in
+    let c₄ = c₃ .before .before in
+    let e : digit (getD (c₄ .args .f .now) (c₃ .loop .i) 0) ≡ some (c .before .d .given .0 .0) = is-value _ _ (sym (c₁ .digit-of .ensures) ∙ c .before .d .given .1) in (
       omega arith,
-      pow-more _ _ _ (c .before .before .before .before .before .before .loop .inv .1) (digit-small _ _ e),
-      c .before .before .before .before .before .before .loop .inv .2 ∙ decimal-more _ _ (c .before .before .before .before .before .loop-test .taken) _ _ e,
+      pow-more _ _ _ (c₃ .loop .inv .1) (digit-small _ _ e),
+      c₃ .loop .inv .2 ∙ decimal-more _ _ (c₂ .loop-test .taken) _ _ e,
     )
 
 returns-2 : tie.Need-returns-2 Inv-loop μ-loop

@@ -1,6 +1,4 @@
 -- `has_room` takes each field off the room: what is left and the fields passed are the whole room.
-use mathlib.Core.Path.{_≡_, refl, sym, ap, _∙_}
-use native.Mathlib.Omega.{arith}
 use Prim.Native.Nat.{_-_}
 use lib.ListN.{length}
 use Rattle.sheet.proofs.ListingLaws.{Left, left-all, left-short, left-more, left-end}
@@ -27,7 +25,10 @@ width-requires : tie.Need-width-requires Inv-loop μ-loop
 width-requires c κs = search needs
 
 returns : tie.Need-returns Inv-loop μ-loop
-returns c = left-short _ _ _ _ _ (c .before .before .before .before .loop .inv) (c .before .before .before .loop-test .taken) (c .before .width .ensures) (c .if1 .taken)
+returns c =
+    let c₁ = c .before .before .before in
+    let c₂ = c₁ .before in
+    left-short _ _ _ _ _ (c₂ .loop .inv) (c₁ .loop-test .taken) (c .before .width .ensures) (c .if1 .taken)
 
 add-i : tie.Need-add-i Inv-loop μ-loop
 add-i c = search needs
@@ -36,7 +37,10 @@ loop-less : tie.Need-loop-less Inv-loop μ-loop
 loop-less c = search needs
 
 loop-again : tie.Need-loop-again Inv-loop μ-loop
-loop-again c = left-more _ _ _ _ _ (c .before .before .before .before .loop .inv) (c .before .before .before .loop-test .taken) (c .before .width .ensures) (c .if1 .left)
+loop-again c =
+    let c₁ = c .before .before .before in
+    let c₂ = c₁ .before in
+    left-more _ _ _ _ _ (c₂ .loop .inv) (c₁ .loop-test .taken) (c .before .width .ensures) (c .if1 .left)
 
 returns-2 : tie.Need-returns-2 Inv-loop μ-loop
 returns-2 c = left-end _ _ _ _ (c .before .loop .inv) (c .loop-test .left)

@@ -1,5 +1,5 @@
 -- Past the end of an area `getD` gives 0.
-use mathlib.Core.Path.{_≡_, refl, sym, ap, _∙_}
+use mathlib.Core.Path.{sym}
 use lib.ListN.{List·getD-eq-default}
 use borrow.Author.Needs.{needs}
 use Rattle.sheet.proofs.listing.number_at.Statement.{statement}

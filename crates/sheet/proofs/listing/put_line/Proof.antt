@@ -1,5 +1,4 @@
 -- `put_line` writes field behind field over the start of the area, and the line's end behind the last.
-use mathlib.Core.Path.{_≡_, refl, sym, ap, _∙_}
 use native.Mathlib.Omega.{arith}
 use Prim.Native.Nat.{_-_}
 use lib.ListN.{length, length-set}
@@ -24,7 +23,11 @@ shared-slice-read-put-six : tie.Need-shared-slice-read-put-six Inv-loop μ-loop
 shared-slice-read-put-six c = search needs
 
 put-six-requires : tie.Need-put-six-requires Inv-loop μ-loop
-put-six-requires c κs = filled-room _ _ _ _ _ (c .before .before .before .loop .inv) (c .before .before .before .before .before .before .pre) (c .before .before .loop-test .taken)
+put-six-requires c κs =
+    let c₁ = c .before .before in
+    let c₂ = c₁ .before in
+    let c₃ = c₂ .before .before .before in
+    filled-room _ _ _ _ _ (c₂ .loop .inv) (c₃ .pre) (c₁ .loop-test .taken)
 
 add-i : tie.Need-add-i Inv-loop μ-loop
 add-i c = search needs
@@ -33,19 +36,32 @@ loop-less : tie.Need-loop-less Inv-loop μ-loop
 loop-less c = search needs
 
 loop-again : tie.Need-loop-again Inv-loop μ-loop
-loop-again c = filled-more _ _ _ _ _ (c .before .before .before .before .before .before .loop .inv) (c .before .before .before .before .before .before .before .before .before .pre) _ _ (c .before .before .before .before .before .loop-test .taken) (c .before .before .put-six .ensures .0) (c .before .before .put-six .ensures .1)
+loop-again c =
+    let c₁ = c .before .before in
+    let c₂ = c₁ .before .before .before in
+    let c₃ = c₂ .before in
+    let c₄ = c₃ .before .before .before in
+    filled-more _ _ _ _ _ (c₃ .loop .inv) (c₄ .pre) _ _ (c₂ .loop-test .taken) (c₁ .put-six .ensures .0) (c₁ .put-six .ensures .1)
 
 slice-write-out : tie.Need-slice-write-out Inv-loop μ-loop
-slice-write-out c = filled-end _ _ _ _ _ (c .before .loop .inv) (c .before .before .before .before .pre) (c .loop-test .left)
+slice-write-out c =
+    let c₁ = c .before .before .before .before in
+    filled-end _ _ _ _ _ (c .before .loop .inv) (c₁ .pre) (c .loop-test .left)
 
 add-result : tie.Need-add-result Inv-loop μ-loop
-add-result c = omega (arith, filled-end _ _ _ _ _ (c .before .loop .inv) (c .before .before .before .before .pre) (c .loop-test .left), filled-length _ _ _ _ _ (c .before .loop .inv) (c .before .before .before .before .pre))
+add-result c =
+    let c₁ = c .before .before .before .before in
+    omega (arith, filled-end _ _ _ _ _ (c .before .loop .inv) (c₁ .pre) (c .loop-test .left), filled-length _ _ _ _ _ (c .before .loop .inv) (c₁ .pre))
 
 same-length : tie.Need-same-length Inv-loop μ-loop
-same-length c = simp length-set (filled-length _ _ _ _ _ (c .before .loop .inv) (c .before .before .before .before .pre))
+same-length c =
+    let c₁ = c .before .before .before .before in
+    simp length-set (filled-length _ _ _ _ _ (c .before .loop .inv) (c₁ .pre))
 
 returns : tie.Need-returns Inv-loop μ-loop
-returns c = filled-line _ _ _ _ _ (c .before .loop .inv) (c .before .before .before .before .pre) (c .loop-test .left)
+returns c =
+    let c₁ = c .before .before .before .before in
+    filled-line _ _ _ _ _ (c .before .loop .inv) (c₁ .pre) (c .loop-test .left)
 
 pub put-line-spec : {M : Type 1} → statement M
 put-line-spec =

@@ -1,5 +1,4 @@
 -- A field is its spaces and its numeral.
-use mathlib.Core.Path.{_≡_, refl, sym, ap, _∙_}
 use native.Mathlib.Omega.{arith}
 use Rattle.sheet.proofs.ListingLaws.{six-length}
 use borrow.Author.Needs.{needs}

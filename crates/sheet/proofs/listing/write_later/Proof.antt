@@ -1,5 +1,4 @@
 -- Each way out is one case of `later-line`.
-use mathlib.Core.Path.{_≡_, refl, sym, ap, _∙_}
 use Rattle.sheet.proofs.ListingLaws.{renamed, no-text, later-over, later-token, later-rule, later-none}
 use borrow.Author.Needs.{needs}
 use Rattle.sheet.proofs.listing.write_later.Statement.{statement}
@@ -15,7 +14,11 @@ same-length : tie.Need-same-length
 same-length c = search needs
 
 returns-2 : tie.Need-returns-2
-returns-2 c = renamed _ _ _ _ _ (later-token _ _ _ _ (c .before .before .before .before .before .before .if1 .left) (c .before .before .before .before .if2 .taken)) (c .before .before .write-token .ensures)
+returns-2 c =
+    let c₁ = c .before .before in
+    let c₂ = c₁ .before .before in
+    let c₃ = c₂ .before .before in
+    renamed _ _ _ _ _ (later-token _ _ _ _ (c₃ .if1 .left) (c₂ .if2 .taken)) (c₁ .write-token .ensures)
 
 write-rule-requires : tie.Need-write-rule-requires
 write-rule-requires c κs = search needs
@@ -24,10 +27,18 @@ same-length-2 : tie.Need-same-length-2
 same-length-2 c = search needs
 
 returns-3 : tie.Need-returns-3
-returns-3 c = renamed _ _ _ _ _ (later-rule _ _ _ _ (c .before .before .before .before .before .before .before .before .if1 .left) (c .before .before .before .before .before .before .if2 .left) (c .before .before .before .before .if3 .taken)) (c .before .before .write-rule .ensures)
+returns-3 c =
+    let c₁ = c .before .before in
+    let c₂ = c₁ .before .before in
+    let c₃ = c₂ .before .before in
+    let c₄ = c₃ .before .before in
+    renamed _ _ _ _ _ (later-rule _ _ _ _ (c₄ .if1 .left) (c₃ .if2 .left) (c₂ .if3 .taken)) (c₁ .write-rule .ensures)
 
 returns-4 : tie.Need-returns-4
-returns-4 c = no-text _ _ (later-none _ _ _ _ (c .before .before .before .before .if1 .left) (c .before .before .if2 .left) (c .if3 .left))
+returns-4 c =
+    let c₁ = c .before .before in
+    let c₂ = c₁ .before .before in
+    no-text _ _ (later-none _ _ _ _ (c₂ .if1 .left) (c₁ .if2 .left) (c .if3 .left))
 
 pub write-later-spec : {M : Type 1} → statement M
 write-later-spec =

@@ -1,6 +1,5 @@
 -- `write_line` writes only where the whole line has room.
-use mathlib.Core.Path.{_≡_, refl, sym, ap, _∙_}
-use native.Mathlib.Omega.{arith}
+use mathlib.Core.Path.{sym, _∙_}
 use borrow.Author.Tests.{ltb-true, ltb-false}
 use Rattle.sheet.proofs.ListingLaws.{written-whole, written-short}
 use borrow.Author.Needs.{needs}
@@ -17,7 +16,11 @@ same-length : tie.Need-same-length
 same-length c = search needs
 
 returns : tie.Need-returns
-returns c = written-whole _ _ _ _ (ltb-true _ _ (sym (c .before .before .before .before .before .has-room .ensures) ∙ c .before .before .before .before .if1 .taken)) (c .before .before .put-line .ensures)
+returns c =
+    let c₁ = c .before .before in
+    let c₂ = c₁ .before .before in
+    let c₃ = c₂ .before in
+    written-whole _ _ _ _ (ltb-true _ _ (sym (c₃ .has-room .ensures) ∙ c₂ .if1 .taken)) (c₁ .put-line .ensures)
 
 returns-2 : tie.Need-returns-2
 returns-2 c = written-short _ _ (ltb-false _ _ (sym (c .before .has-room .ensures) ∙ c .if1 .left))

@@ -1,5 +1,4 @@
 -- The head is line 0; line k behind it is the later line k - 1.
-use mathlib.Core.Path.{_≡_, refl, sym, ap, _∙_}
 use Rattle.sheet.proofs.ListingLaws.{renamed, listing-head, listing-later}
 use borrow.Author.Needs.{needs}
 use Rattle.sheet.proofs.listing.write_listing_line.Statement.{statement}
@@ -12,7 +11,10 @@ same-length : tie.Need-same-length
 same-length c = search needs
 
 returns : tie.Need-returns
-returns c = renamed _ _ _ _ _ (listing-head _ _ _ _ (c .before .before .before .before .if1 .taken)) (c .before .before .write-head .ensures)
+returns c =
+    let c₁ = c .before .before in
+    let c₂ = c₁ .before .before in
+    renamed _ _ _ _ _ (listing-head _ _ _ _ (c₂ .if1 .taken)) (c₁ .write-head .ensures)
 
 sub-write-later : tie.Need-sub-write-later
 sub-write-later c = search needs
@@ -24,7 +26,10 @@ same-length-2 : tie.Need-same-length-2
 same-length-2 c = search needs
 
 returns-2 : tie.Need-returns-2
-returns-2 c = renamed _ _ _ _ _ (listing-later _ _ _ _ (c .before .before .before .before .if1 .left)) (c .before .before .write-later .ensures)
+returns-2 c =
+    let c₁ = c .before .before in
+    let c₂ = c₁ .before .before in
+    renamed _ _ _ _ _ (listing-later _ _ _ _ (c₂ .if1 .left)) (c₁ .write-later .ensures)
 
 pub write-listing-line-spec : {M : Type 1} → statement M
 write-listing-line-spec =

@@ -1,5 +1,5 @@
 -- The numbers that were read are those of the rule's line.
-use mathlib.Core.Path.{_≡_, refl, sym, ap, _∙_}
+use mathlib.Core.Path.{ap}
 use Rattle.sheet.specs.Listing.{line-text}
 use Rattle.sheet.proofs.ListingLaws.{renamed, rule-is}
 use borrow.Author.Needs.{needs}
@@ -26,10 +26,14 @@ same-length c = search needs
 
 returns : tie.Need-returns
 returns c =
-    let a = c .before .before .before .before .before .before .before .before .before .args in
+    let c₁ = c .before .before in
+    let c₂ = c₁ .before .before .before in
+    let c₃ = c₂ .before in
+    let c₄ = c₃ .before .before .before in
+    let a = c₄ .args in
     renamed _ _ _ _ _
-    (ap line-text (rule-is (a .report .now) (a .k) _ _ (c .before .before .before .before .before .before .sign-of .ensures) (c .before .before .before .before .before .number-at .ensures)))
-    (c .before .before .write-line .ensures)
+    (ap line-text (rule-is (a .report .now) (a .k) _ _ (c₃ .sign-of .ensures) (c₂ .number-at .ensures)))
+    (c₁ .write-line .ensures)
 
 pub write-rule-spec : {M : Type 1} → statement M
 write-rule-spec =

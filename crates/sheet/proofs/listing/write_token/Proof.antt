@@ -1,5 +1,5 @@
 -- The numbers that were read are those of the token's line.
-use mathlib.Core.Path.{_≡_, refl, sym, ap, _∙_}
+use mathlib.Core.Path.{ap}
 use Rattle.sheet.specs.Listing.{line-text}
 use Rattle.sheet.proofs.ListingLaws.{renamed, token-is}
 use borrow.Author.Needs.{needs}
@@ -47,10 +47,17 @@ same-length c = search needs
 
 returns : tie.Need-returns
 returns c =
-    let a = c .before .before .before .before .before .before .before .before .before .before .before .before .args in
+    let c₁ = c .before .before in
+    let c₂ = c₁ .before .before .before in
+    let c₃ = c₂ .before in
+    let c₄ = c₃ .before in
+    let c₅ = c₄ .before in
+    let c₆ = c₅ .before in
+    let c₇ = c₆ .before .before .before in
+    let a = c₇ .args in
     renamed _ _ _ _ _
-    (ap line-text (token-is (a .tokens .now) (a .k) _ _ _ _ _ (c .before .before .before .before .before .before .before .before .before .number-at .ensures) (c .before .before .before .before .before .before .before .before .number-at2 .ensures) (c .before .before .before .before .before .before .before .number-at3 .ensures) (c .before .before .before .before .before .before .number-at4 .ensures) (c .before .before .before .before .before .number-at5 .ensures)))
-    (c .before .before .write-line .ensures)
+    (ap line-text (token-is (a .tokens .now) (a .k) _ _ _ _ _ (c₆ .number-at .ensures) (c₅ .number-at2 .ensures) (c₄ .number-at3 .ensures) (c₃ .number-at4 .ensures) (c₂ .number-at5 .ensures)))
+    (c₁ .write-line .ensures)
 
 pub write-token-spec : {M : Type 1} → statement M
 write-token-spec =

@@ -1,5 +1,5 @@
 -- `digits` counts what it takes off: the digits of `rest` and those counted are the digits of `n` and one.
-use mathlib.Core.Path.{_≡_, refl, sym, ap, _∙_}
+use mathlib.Core.Path.{_≡_}
 use native.Mathlib.Omega.{arith}
 use Prim.Native.Nat.{_+_, _≤_}
 use lib.ListN.{length}

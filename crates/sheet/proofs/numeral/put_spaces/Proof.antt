@@ -1,5 +1,4 @@
 -- `put_spaces` writes the last space first.
-use mathlib.Core.Path.{_≡_, refl, sym, ap, _∙_}
 use native.Mathlib.Omega.{arith}
 use Prim.Native.Nat.{_-_}
 use Rattle.sheet.proofs.ListingLaws.{Blank, blank-none, blank-length, blank-more, blank-all}

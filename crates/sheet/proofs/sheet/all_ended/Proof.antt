@@ -1,8 +1,7 @@
 -- `all_ended` passes a line that ends well: that the lines from `i` on do is that all of them do.
-use mathlib.Core.Path.{_≡_, refl, sym, ap, _∙_}
+use mathlib.Core.Path.{_≡_, sym, ap, _∙_}
 use native.Mathlib.Omega.{arith}
-use Prim.Native.Nat.{_-_, _*_, _≤_}
-use lib.ListN.{length}
+use Prim.Native.Nat.{_-_, _≤_}
 use Rattle.sheet.specs.Sheet.{cut, ended}
 use Rattle.sheet.proofs.SheetLaws.{rest, rest-all, ended-stop, ended-more, ended-done}
 use Rattle.sheet.proofs.sheet.all_ended.Statement.{statement}

@@ -1,5 +1,5 @@
 -- `first_bad` passes a line that reads: the first bad line from line `i` on is the first of all.
-use mathlib.Core.Path.{_≡_, refl, sym, ap, _∙_}
+use mathlib.Core.Path.{_≡_, sym, ap, _∙_}
 use native.Mathlib.Omega.{arith}
 use Prim.Native.Nat.{_+_, _-_, _≤_}
 use Rattle.sheet.specs.Sheet.{cut, first-malformed}
@@ -36,7 +36,11 @@ add-result : tie.Need-add-result Inv-loop μ-loop
 add-result c = search needs
 
 returns : tie.Need-returns Inv-loop μ-loop
-returns c = sym (c .before .before .before .before .loop .inv .1 ∙ malformed-here _ _ _ (c .before .before .before .loop-test .taken) (is-bad _ (sym (c .before .before .read-line .ensures) ∙ c .enum-told2 .given .1)))
+returns c =
+    let c₁ = c .before .before in
+    let c₂ = c₁ .before in
+    let c₃ = c₂ .before in
+    sym (c₃ .loop .inv .1 ∙ malformed-here _ _ _ (c₂ .loop-test .taken) (is-bad _ (sym (c₁ .read-line .ensures) ∙ c .enum-told2 .given .1)))
 
 add-i : tie.Need-add-i Inv-loop μ-loop
 add-i c = search needs
@@ -45,7 +49,11 @@ loop-less : tie.Need-loop-less Inv-loop μ-loop
 loop-less c = search needs
 
 loop-again : tie.Need-loop-again Inv-loop μ-loop
-loop-again c = (omega arith, c .before .before .before .before .loop .inv .1 ∙ malformed-more _ _ _ (c .before .before .before .loop-test .taken) _ (is-fields _ _ _ _ _ (sym (c .before .before .read-line .ensures) ∙ c .enum-told .given .1)))
+loop-again c =
+    let c₁ = c .before .before in
+    let c₂ = c₁ .before in
+    let c₃ = c₂ .before in
+    (omega arith, c₃ .loop .inv .1 ∙ malformed-more _ _ _ (c₂ .loop-test .taken) _ (is-fields _ _ _ _ _ (sym (c₁ .read-line .ensures) ∙ c .enum-told .given .1)))
 
 returns-2 : tie.Need-returns-2 Inv-loop μ-loop
 returns-2 c = sym (c .before .loop .inv .1 ∙ malformed-done _ _ _ _ (c .loop-test .left))

@@ -1,6 +1,5 @@
 -- `is_lined` makes the parts of the first test one by one.
-use mathlib.Core.Path.{_≡_, refl, sym, ap, _∙_}
-use native.Mathlib.Omega.{arith}
+use mathlib.Core.Path.{_∙_}
 use Rattle.sheet.proofs.SheetLaws.{lined-empty, lined-odd, lined-ends, lined-over}
 use borrow.Author.Needs.{needs}
 use Rattle.sheet.proofs.sheet.is_lined.Statement.{statement}

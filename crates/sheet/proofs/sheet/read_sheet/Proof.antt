@@ -1,5 +1,4 @@
 -- `read_sheet` writes only where the number is 0, and that is where the sheet passed the three tests.
-use mathlib.Core.Path.{_≡_, refl, sym, ap, _∙_}
 use native.Mathlib.Omega.{arith}
 use Rattle.sheet.proofs.SheetLaws.{passed, sheet-read, sheet-refused}
 use borrow.Author.Needs.{needs}
@@ -18,7 +17,10 @@ same-length : tie.Need-same-length
 same-length c = search needs
 
 returns : tie.Need-returns
-returns c = sheet-read _ _ _ (c .before .before .before .before .before .tested .ensures) _ (passed _ _ _ (c .before .before .before .before .before .tested .ensures) (c .before .before .before .if1 .taken)) (c .before .put-nodes .ensures)
+returns c =
+    let c₁ = c .before .before .before in
+    let c₂ = c₁ .before .before in
+    sheet-read _ _ _ (c₂ .tested .ensures) _ (passed _ _ _ (c₂ .tested .ensures) (c₁ .if1 .taken)) (c .before .put-nodes .ensures) (c .before .put-nodes .kept .1 .1 .0)
 
 returns-2 : tie.Need-returns-2
 returns-2 c = sheet-refused _ _ _ (c .before .before .tested .ensures) (c .if1 .left)

@@ -1,5 +1,5 @@
 -- `tested` makes the three tests in order: each way out is one case of `reading`.
-use mathlib.Core.Path.{_≡_, refl, sym, ap, _∙_}
+use mathlib.Core.Path.{sym, ap, _∙_}
 use native.Mathlib.Omega.{arith}
 use borrow.Author.Tests.{not-true, not-false}
 use Rattle.sheet.specs.Sheet.{outcome}
@@ -24,7 +24,11 @@ refusal-requires-2 : tie.Need-refusal-requires-2
 refusal-requires-2 c κs = search needs
 
 returns-2 : tie.Need-returns-2
-returns-2 c = c .refusal2 .ensures ∙ sym (ap outcome (test-2 _ _ (sym (c .before .before .before .before .is-lined .ensures) ∙ not-false _ (c .before .before .before .if1 .left)) _ (c .before .before .first-bad .ensures) (c .before .if2 .taken)))
+returns-2 c =
+    let c₁ = c .before .before in
+    let c₂ = c₁ .before in
+    let c₃ = c₂ .before in
+    c .refusal2 .ensures ∙ sym (ap outcome (test-2 _ _ (sym (c₃ .is-lined .ensures) ∙ not-false _ (c₂ .if1 .left)) _ (c₁ .first-bad .ensures) (c .before .if2 .taken)))
 
 mul-if3 : tie.Need-mul-if3
 mul-if3 c = search needs
@@ -33,13 +37,25 @@ refusal-requires-3 : tie.Need-refusal-requires-3
 refusal-requires-3 c κs = search needs
 
 returns-3 : tie.Need-returns-3
-returns-3 c = c .refusal3 .ensures ∙ sym (ap outcome (test-3 _ _ (sym (c .before .before .before .before .before .is-lined .ensures) ∙ not-false _ (c .before .before .before .before .if1 .left)) (sym (c .before .before .before .first-bad .ensures) ∙ c .before .before .if2 .left) (c .before .if3 .taken)))
+returns-3 c =
+    let c₁ = c .before .before in
+    let c₂ = c₁ .before in
+    let c₃ = c₂ .before in
+    let c₄ = c₃ .before in
+    c .refusal3 .ensures ∙ sym (ap outcome (test-3 _ _ (sym (c₄ .is-lined .ensures) ∙ not-false _ (c₃ .if1 .left)) (sym (c₂ .first-bad .ensures) ∙ c₁ .if2 .left) (c .before .if3 .taken)))
 
 cast-t8 : tie.Need-cast-t8
-cast-t8 c = omega (arith, lined-few _ (sym (c .before .before .before .before .is-lined .ensures) ∙ not-false _ (c .before .before .before .if1 .left)))
+cast-t8 c =
+    let c₁ = c .before .before .before in
+    let c₂ = c₁ .before in
+    omega (arith, lined-few _ (sym (c₂ .is-lined .ensures) ∙ not-false _ (c₁ .if1 .left)))
 
 returns-4 : tie.Need-returns-4
-returns-4 c = sym (ap outcome (test-0 _ _ (sym (c .before .before .before .before .is-lined .ensures) ∙ not-false _ (c .before .before .before .if1 .left)) (sym (c .before .before .first-bad .ensures) ∙ c .before .if2 .left) (c .if3 .left)))
+returns-4 c =
+    let c₁ = c .before .before in
+    let c₂ = c₁ .before in
+    let c₃ = c₂ .before in
+    sym (ap outcome (test-0 _ _ (sym (c₃ .is-lined .ensures) ∙ not-false _ (c₂ .if1 .left)) (sym (c₁ .first-bad .ensures) ∙ c .before .if2 .left) (c .if3 .left)))
 
 pub tested-spec : {M : Type 1} → statement M
 tested-spec =
