@@ -89,7 +89,7 @@ def main():
     shutil.copytree(HERE, COPY, dirs_exist_ok=True, ignore=shutil.ignore_patterns("answers-out", ".git"))
     survivors = 0
     for name, file, old, new in MUTANTS:
-        text = (HERE / file).read_text()
+        text = (COPY / file).read_text()
         assert text.count(old) == 1, (name, text.count(old))
         (COPY / file).write_text(text.replace(old, new))
         subprocess.run(BUILD, cwd=COPY, check=True, capture_output=True, env=QUICK)

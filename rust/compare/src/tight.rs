@@ -12,13 +12,7 @@ const STEPS: u64 = 20_000;
 pub fn tighten(rng: &mut Rng, case: &mut Case) {
     let less = u32::from(rng.once_in(2));
     match rng.below(3) {
-        0 => {
-            let spare = rng.below(5);
-            let with = |tokens: u32| Case { tokens: 5 * tokens as usize + spare, ..case.clone() };
-            if let Some(least) = (0..=MOST).find(|tokens| number(&with(*tokens)) != 14) {
-                *case = with(least.saturating_sub(less));
-            }
-        }
+        0 => tighten_tokens(rng, case),
         1 => {
             let with = |depth_limit: u32| Case { depth_limit, ..case.clone() };
             if let Some(least) = (1..=MOST).find(|depth| number(&with(*depth)) != 12) {
@@ -31,6 +25,16 @@ pub fn tighten(rng: &mut Rng, case: &mut Case) {
                 *case = with((least - less).max(1));
             }
         }
+    }
+}
+
+/// The same for the tokens area alone, which need not be a multiple of five.
+pub fn tighten_tokens(rng: &mut Rng, case: &mut Case) {
+    let less = u32::from(rng.once_in(2));
+    let spare = rng.below(5);
+    let with = |tokens: u32| Case { tokens: 5 * tokens as usize + spare, ..case.clone() };
+    if let Some(least) = (0..=MOST).find(|tokens| number(&with(*tokens)) != 14) {
+        *case = with(least.saturating_sub(less));
     }
 }
 
