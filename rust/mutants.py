@@ -5,6 +5,7 @@ Each mutant changes one place of the oracle in a copy of this folder, builds it 
 `compare` (against pest) and `answers --check` (against the fixed list) judge it. Slow; run it by
 hand: nice python3 mutants.py [folder for the copy]
 """
+import os
 import pathlib
 import re
 import shutil
@@ -66,8 +67,11 @@ MUTANTS = [
     ("kind 17 never stands still", STILL, "| 16 | 17 | 19 => true", "| 16 | 19 => true"),
 ]
 
-COMPARE = ["target/release/compare", "--lines", "2", "--random", "60000", "--damaged", "0", "--watch", "4"]
+COMPARE = ["target/release/compare", "--lines", "2", "--random", "40000", "--damaged", "0", "--watch", "8"]
 REPLAY = ["target/release/answers", "--check", str(HERE / "answers-out")]
+
+BUILD = ["cargo", "build", "-j1", "--release", "--offline", "-q", "--bin", "compare", "--bin", "answers"]
+QUICK = os.environ | {"CARGO_PROFILE_RELEASE_DEBUG": "0", "CARGO_PROFILE_RELEASE_OPT_LEVEL": "1"}
 
 
 def refused(command):
@@ -85,11 +89,10 @@ def main():
     shutil.copytree(HERE, COPY, dirs_exist_ok=True, ignore=shutil.ignore_patterns("answers-out", ".git"))
     survivors = 0
     for name, file, old, new in MUTANTS:
-        text = (HERE / file).read_text()
+        text = (COPY / file).read_text()
         assert text.count(old) == 1, (name, text.count(old))
         (COPY / file).write_text(text.replace(old, new))
-        build = ["cargo", "build", "-j1", "--release", "--offline", "-q"]
-        subprocess.run(build, cwd=COPY, check=True, capture_output=True)
+        subprocess.run(BUILD, cwd=COPY, check=True, capture_output=True, env=QUICK)
         by_pest, by_list = refused(COMPARE), refused(REPLAY)
         survivors += not (by_pest or by_list)
         print(f"{name} | {by_pest or '-'} | {by_list or '-'}", flush=True)

@@ -5,7 +5,7 @@ use crate::case::Case;
 /// Each with the number that document 01 gives it.
 pub fn cases() -> Vec<(Case, u32)> {
     let mut all = Vec::new();
-    all.extend(desk());
+    all.extend(m_cases());
     all.extend(texts());
     all.extend(sheets());
     all.extend(depths());
@@ -14,7 +14,7 @@ pub fn cases() -> Vec<(Case, u32)> {
 }
 
 /// Document 01's cases M1 to M10 and those beside them.
-fn desk() -> Vec<(Case, u32)> {
+fn m_cases() -> Vec<(Case, u32)> {
     let m1 = [[1, 0, 1, 0], [8, 7, 1, 0], [19, 3, 0, 0], [6, 2, 3, 0]];
     let a_then_b = [[1, 0, 1, 0], [1, 1, 1, 0], [6, 1, 2, 0]];
     let m3 = [&a_then_b[..], &[[1, 2, 1, 0], [7, 3, 4, 0]]].concat();

@@ -6,12 +6,14 @@
 //!   at the same line for the same reason; after 14 to 16 pest's own end is also compared with
 //!   the reading without capacities.
 //!
+//! A plain grammar's 0 and 10 are also held against Ford's relation.
+//!
 //! A watched case is read once more with small capacities, on both sides, and pest's whole
 //! private state at the end is compared too.
 
 use std::fmt;
 
-use oracle::{Cause, Outcome};
+use oracle::{ford, Cause, Outcome};
 use reference::watch::{self, state_within};
 use reference::{Ending, Limit, Sheet};
 
@@ -44,6 +46,8 @@ pub struct Tally {
     /// Runs of pest that were compared: plain, and with its state looked at.
     pub pest: u64,
     pub watched: u64,
+    /// Plain grammars held against Ford's relation.
+    pub ford: u64,
 }
 
 impl Tally {
@@ -58,6 +62,7 @@ impl Tally {
         self.given_up += other.given_up;
         self.pest += other.pest;
         self.watched += other.watched;
+        self.ford += other.ford;
     }
 }
 
@@ -68,7 +73,8 @@ impl fmt::Display for Tally {
             write!(f, " {number}: {count}")?;
         }
         write!(f, "; given up: {}; ", self.given_up)?;
-        write!(f, "runs of pest compared: {}, of these watched: {}", self.pest, self.watched)
+        write!(f, "runs of pest compared: {}, of these watched: {}; ", self.pest, self.watched)?;
+        write!(f, "plain ones held against Ford: {}", self.ford)
     }
 }
 
@@ -122,7 +128,25 @@ impl Judge {
         self.tally.pest += 1;
         let sheet = Sheet::new(&case.nodes, literals(case));
         let ending = reference::state(&sheet, text(case), case.depth_limit, case.call_limit);
-        check_answer(&ending, outcome, &self.areas)
+        check_answer(&ending, outcome, &self.areas)?;
+        self.check_ford(case, outcome)
+    }
+
+    /// 0 where Ford's relation consumes just the prefix before the final position, 10 where it
+    /// fails.
+    fn check_ford(&mut self, case: &Case, outcome: Outcome) -> Result<(), Difference> {
+        let nodes = oracle::nodes_of(case.input());
+        if outcome.number > 10 || !ford::is_plain(&nodes) {
+            return Ok(());
+        }
+        self.tally.ford += 1;
+        let reading = read(case, oracle::Capacities::of(case.tokens), self.steps);
+        let prefix = (outcome.number == 0).then_some(reading.last.position);
+        let consumed = ford::consume(&nodes, &case.literals, &case.text);
+        if consumed != prefix {
+            return different("Ford's relation and the reading", &consumed, &prefix);
+        }
+        Ok(())
     }
 
     fn check_stopped(&mut self, case: &Case, outcome: Outcome) -> Result<(), Difference> {

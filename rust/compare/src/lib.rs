@@ -16,3 +16,4 @@ pub mod rng;
 pub mod sample;
 pub mod stack;
 pub mod texts;
+pub mod tight;

@@ -3,6 +3,7 @@
 
 use crate::case::Case;
 use crate::rng::Rng;
+use crate::tight::tighten_tokens;
 
 const LITERALS: &str = "abz";
 
@@ -13,11 +14,25 @@ struct Sheet<'r> {
 }
 
 pub fn case(rng: &mut Rng) -> Case {
-    if rng.once_in(3) {
-        attempts(rng)
-    } else {
-        trace(rng)
+    match rng.below(6) {
+        0 | 1 => attempts(rng),
+        2 => pairs(rng),
+        _ => trace(rng),
     }
+}
+
+/// Pairs that are made and cut again, in a tokens area that they just fit in, or just do not.
+fn pairs(rng: &mut Rng) -> Case {
+    let mut sheet = Sheet { rng, nodes: Vec::new() };
+    let root = sheet.pairs(3);
+    if sheet.rng.once_in(3) {
+        sheet.line([8, 6, root, 0]);
+    }
+    let nodes = sheet.nodes;
+    let text = text(rng);
+    let mut case = Case::new(&nodes, LITERALS, &text);
+    tighten_tokens(rng, &mut case);
+    case
 }
 
 /// Rules within and beside one another, under lookaheads of both signs, before a failure that
@@ -121,6 +136,38 @@ impl Sheet<'_> {
             }
         };
         self.line([8, rule, body, 0])
+    }
+
+    /// Pairs beside, within and instead of one another.
+    fn pairs(&mut self, depth: usize) -> i32 {
+        let rule = self.rng.within(1, 3) as i32;
+        let node = match self.rng.below(if depth == 0 { 1 } else { 6 }) {
+            0 | 1 => [8, rule, self.leaf(), 0],
+            2 => [8, rule, self.pairs(depth - 1), 0],
+            3 => [6, self.pairs(depth - 1), self.pairs(depth - 1), 0],
+            _ => {
+                let cut = self.pairs(depth - 1);
+                let z = self.line([1, 2, 1, 0]);
+                let failing = self.line([6, cut, z, 0]);
+                let kind = self.rng.pick(&[6, 8, 9, 9, 9, 13]);
+                let failing = match kind {
+                    6 => failing,
+                    8 => self.line([8, 4, failing, 0]),
+                    _ => self.line([kind, failing, 0, 0]),
+                };
+                [7, failing, self.pairs(depth - 1), 0]
+            }
+        };
+        self.line(node)
+    }
+
+    /// A letter, or nothing.
+    fn leaf(&mut self) -> i32 {
+        if self.rng.once_in(2) {
+            self.letter()
+        } else {
+            self.line([4, 0, 0, 0])
+        }
     }
 
     /// A pair and one or two entries, of "ab".

@@ -14,9 +14,10 @@ const RULES: [i32; 6] = [1, 2, 3, 7, 9, 65_535];
 /// A random case that passes tests 4 and 5.
 pub fn case(rng: &mut Rng, most_lines: usize) -> Case {
     let literals = rng.pick(&LITERALS);
-    let mut nodes = match rng.below(3) {
-        0 => lines(rng, literals, most_lines),
-        _ => grammar(rng, literals, most_lines),
+    let mut nodes = match rng.below(6) {
+        0 | 1 => lines(rng, literals, most_lines),
+        2 => grammar(rng, literals, most_lines, true),
+        _ => grammar(rng, literals, most_lines, false),
     };
     let keep_some = rng.once_in(40);
     if !keep_some {
@@ -98,25 +99,27 @@ fn call_rules(rng: &mut Rng, nodes: &mut [[i32; 4]]) {
     }
 }
 
-// Rule by rule: each body is a tree, and leaves may call any rule.
+// Rule by rule: each body is a tree, and leaves may call any rule. If the grammar is to be plain,
+// nothing uses the stack, and every chain of and_then stands in a sequence.
 
-fn grammar(rng: &mut Rng, literals: &str, most: usize) -> Vec<[i32; 4]> {
+fn grammar(rng: &mut Rng, literals: &str, most: usize, plain: bool) -> Vec<[i32; 4]> {
     let mut nodes = Vec::new();
     let rules = rng.within(1, 4);
     for _ in 0..rules {
         if nodes.len() + 8 > most {
             break;
         }
-        let body = tree(rng, literals, &mut nodes, 3);
+        let body = tree(rng, literals, &mut nodes, 3, plain);
         nodes.push([8, rng.pick(&RULES), body, 0]);
     }
     match rng.below(3) {
         0 if nodes.len() + 10 <= most => {
-            tree(rng, literals, &mut nodes, 3);
+            tree(rng, literals, &mut nodes, 3, plain);
         }
         1 => {
             let last = nodes.len() as i32;
-            nodes.push(combinator(rng, last, last));
+            let node = combinator(rng, last, last);
+            nodes.push(if plain && node[0] > 13 { [9, last, 0, 0] } else { node });
         }
         _ => {}
     }
@@ -124,21 +127,38 @@ fn grammar(rng: &mut Rng, literals: &str, most: usize) -> Vec<[i32; 4]> {
     nodes
 }
 
-fn tree(rng: &mut Rng, literals: &str, nodes: &mut Vec<[i32; 4]>, depth: usize) -> i32 {
-    let node = if depth == 0 || rng.once_in(5) {
+fn tree(
+    rng: &mut Rng,
+    literals: &str,
+    nodes: &mut Vec<[i32; 4]>,
+    depth: usize,
+    plain: bool,
+) -> i32 {
+    let mut node = if depth == 0 || rng.once_in(5) {
         leaf(rng, literals)
     } else {
-        let a = tree(rng, literals, nodes, depth - 1);
+        let a = tree(rng, literals, nodes, depth - 1, plain);
         let node = combinator(rng, a, a);
         match node[0] {
             // pest writes its sequences as a chain of and_then in one closure.
             6 | 7 if depth > 1 || rng.once_in(2) => {
-                let b = tree(rng, literals, nodes, depth - 1);
+                let b = tree(rng, literals, nodes, depth - 1, plain);
                 [node[0], a, b, 0]
             }
             _ => node,
         }
     };
+    if plain {
+        node = match node[0] {
+            6 => {
+                nodes.push(node);
+                [9, nodes.len() as i32, 0, 0]
+            }
+            14 | 18 => [9, node[1], 0, 0],
+            15..=17 => [4, 1, 0, 0],
+            _ => node,
+        };
+    }
     nodes.push(node);
     nodes.len() as i32
 }

@@ -1,6 +1,7 @@
 //! Document 01's `run`, written from the document with lists and forests, not from pest's text:
 //! a second opinion. Plain before fast.
 
+pub mod ford;
 mod forest;
 mod reading;
 mod still;

@@ -16,7 +16,7 @@ use compare::case::{Areas, Case, FILL};
 use compare::contender::contenders;
 use compare::judge::{laid_out, Judge};
 use compare::rng::Rng;
-use compare::{boundary, damage, exhaustive, probe, random, stack};
+use compare::{boundary, damage, exhaustive, probe, random, stack, tight};
 use reference::Sheet;
 
 const LONGEST_TEXT: usize = 40;
@@ -244,6 +244,8 @@ fn draw(rng: &mut Rng, number: u32) -> Option<Case> {
     match number {
         4..=9 => case = damage::damage(rng, case),
         15 => case = full_stack(rng),
+        13 => {}
+        _ if rng.once_in(3) => tight::tighten(rng, &mut case),
         _ => {}
     }
     if case.tokens > MOST_TOKEN_NUMBERS {

@@ -12,7 +12,7 @@ use compare::case::Case;
 use compare::contender::contenders;
 use compare::judge::{Difference, Judge, Tally};
 use compare::rng::Rng;
-use compare::{boundary, damage, exhaustive, minimise, probe, random, stack};
+use compare::{boundary, damage, exhaustive, minimise, probe, random, stack, tight};
 
 struct Options {
     seed: u64,
@@ -131,11 +131,14 @@ fn exhaustive_cases(judge: &mut Judge, options: &Options, lines: usize) -> Resul
 fn random_cases(judge: &mut Judge, options: &Options) -> Result<(), ()> {
     let mut rng = Rng::new(options.seed);
     for at in 0..options.random {
-        let case = match at % 8 {
+        let mut case = match at % 8 {
             0 => random::case(&mut rng, 48),
             1 | 2 => probe::case(&mut rng),
             _ => random::case(&mut rng, 24),
         };
+        if rng.once_in(8) {
+            tight::tighten(&mut rng, &mut case);
+        }
         let small = small(&mut rng, options.watch);
         check(judge, &case, small)?;
     }
