@@ -35,7 +35,7 @@ first-none test l zero e k lo hi = absurd (omega arith)
 first-none test l (suc n) e k lo hi = go (test l) refl e (first-none test (suc l) n) (decLe (suc l) k)
   where
     go : (b : Bool) → test l ≡ b → (if b then some l else first-line test (suc l) n) ≡ none
-      → (first-line test (suc l) n ≡ none → (k : ℕ) → suc l ≤ k → k < suc l + n → test k ≡ false) → Dec (suc l ≤ k) → test k ≡ false
+        → (first-line test (suc l) n ≡ none → (k : ℕ) → suc l ≤ k → k < suc l + n → test k ≡ false) → Dec (suc l ≤ k) → test k ≡ false
     go true t q r d = let z : _≡_ {A = ℕ} 0 1 = cc in absurd (omega arith)
     go false t q r (yes h) = r q k h (omega arith)
     go false t q r (no h) = let z : k ≡ l = omega arith in ap test z ∙ t
@@ -295,20 +295,61 @@ module _ (ns : List ℤ) (literals : List ℕ) (g : Accepted ns literals) (l : �
       let b : ℕ = natural (n .b) in
       let f : Fits ns literals l = facts in
       tree-step ns literals l lo hi
-      ∙ by-kind (λ x y. x ≡ y) (tree-rows literals (below-at ns literals (l - 1)) l n) (tree-rows literals (tree-at ns literals) l n) end-of-input end-of-input refl
-      (λ q. refl, (λ q. refl, (λ q. refl, (λ q. refl, (λ q. refl,
-      (λ q. ap₂ and-then (down a (f .a₆ q)) (down b (f .b₆ q)),
-      (λ q. ap₂ or-else (down a (f .a₇ q)) (down b (f .b₇ q)),
-      (λ q. ap (rule l a) (down b (f .b₈ q)),
-      (λ q. ap sequence (down a (f .a₉ q)),
-      (λ q. ap repeat (down a (f .a₁₀ q)),
-      (λ q. ap optional (down a (f .a₁₁ q)),
-      (λ q. ap (lookahead (eqb b 1)) (down a (f .a₁₂ q)),
-      (λ q. ap (atomic (atomicity-of b)) (down a (f .a₁₃ q)),
-      (λ q. ap (stack-push l) (down a (f .a₁₄ q)),
-      (λ q. refl, (λ q. refl, (λ q. refl,
-      (λ q. ap restore-on-err (down a (f .a₁₈ q)),
-      (λ q. refl, (λ q. refl, tt))))))))))))))))))))
+      ∙ by-kind (λ x y. x ≡ y) (tree-rows literals (below-at ns literals (l - 1)) l n) (tree-rows literals (tree-at ns literals) l n) end-of-input end-of-input refl (
+        λ q. refl,
+        (
+          λ q. refl,
+          (
+            λ q. refl,
+            (
+              λ q. refl,
+              (
+                λ q. refl,
+                (
+                  λ q. ap₂ and-then (down a (f .a₆ q)) (down b (f .b₆ q)),
+                  (
+                    λ q. ap₂ or-else (down a (f .a₇ q)) (down b (f .b₇ q)),
+                    (
+                      λ q. ap (rule l a) (down b (f .b₈ q)),
+                      (
+                        λ q. ap sequence (down a (f .a₉ q)),
+                        (
+                          λ q. ap repeat (down a (f .a₁₀ q)),
+                          (
+                            λ q. ap optional (down a (f .a₁₁ q)),
+                            (
+                              λ q. ap (lookahead (eqb b 1)) (down a (f .a₁₂ q)),
+                              (
+                                λ q. ap (atomic (atomicity-of b)) (down a (f .a₁₃ q)),
+                                (
+                                  λ q. ap (stack-push l) (down a (f .a₁₄ q)),
+                                  (
+                                    λ q. refl,
+                                    (
+                                      λ q. refl,
+                                      (
+                                        λ q. refl,
+                                        (
+                                          λ q. ap restore-on-err (down a (f .a₁₈ q)),
+                                          (λ q. refl, (λ q. refl, tt)),
+                                        ),
+                                      ),
+                                    ),
+                                  ),
+                                ),
+                              ),
+                            ),
+                          ),
+                        ),
+                      ),
+                    ),
+                  ),
+                ),
+              ),
+            ),
+          ),
+        ),
+      )
 
   -- The same at a kind: at 6, `tree-at l ≡ and-then (tree-at a) (tree-at b)`, and so for each.
   pub tree-kind : (k : ℕ) → kind-at ns l ≡ k → tree-at ns literals l ≡ getD (tree-rows literals (tree-at ns literals) l (node-at ns l)) (k - 1) end-of-input
@@ -356,10 +397,37 @@ module _ (ns : List ℤ) (literals : List ℕ) (g : Accepted ns literals) where
   literal-rows l i ih =
       let a : ℕ = natural (node-at ns l .a) in
       let b : ℕ = natural (node-at ns l .b) in
-      let f : Fits ns literals l = facts ns literals g l (i .0) (i .1) in
-      (λ q. f .part₁ q .text, (λ q. f .part₂ q .text, (λ q. tt, (λ q. tt, (λ q. tt,
-      (λ q. (ih a (f .a₆ q), ih b (f .b₆ q)), (λ q. (ih a (f .a₇ q), ih b (f .b₇ q)), (λ q. ih b (f .b₈ q), (λ q. ih a (f .a₉ q), (λ q. ih a (f .a₁₀ q),
-      (λ q. ih a (f .a₁₁ q), (λ q. ih a (f .a₁₂ q), (λ q. ih a (f .a₁₃ q), (λ q. ih a (f .a₁₄ q), (λ q. tt, (λ q. tt, (λ q. tt, (λ q. ih a (f .a₁₈ q), (λ q. tt, (λ q. tt, tt))))))))))))))))))))
+      let f : Fits ns literals l = facts ns literals g l (i .0) (i .1) in (
+        λ q. f .part₁ q .text,
+        (
+          λ q. f .part₂ q .text,
+          (
+            λ q. tt,
+            (
+              λ q. tt,
+              (
+                λ q. tt,
+                (
+                  λ q. (ih a (f .a₆ q), ih b (f .b₆ q)),
+                  (
+                    λ q. (ih a (f .a₇ q), ih b (f .b₇ q)),
+                    (
+                      λ q. ih b (f .b₈ q),
+                      (
+                        λ q. ih a (f .a₉ q),
+                        (
+                          λ q. ih a (f .a₁₀ q),
+                          (λ q. ih a (f .a₁₁ q), (λ q. ih a (f .a₁₂ q), (λ q. ih a (f .a₁₃ q), (λ q. ih a (f .a₁₄ q), (λ q. tt, (λ q. tt, (λ q. tt, (λ q. ih a (f .a₁₈ q), (λ q. tt, (λ q. tt, tt)))))))))),
+                        ),
+                      ),
+                    ),
+                  ),
+                ),
+              ),
+            ),
+          ),
+        ),
+      )
 
   pub tree-literals : (l : ℕ) → Literals (tree-at ns literals l)
   tree-literals = everywhere ns literals g Literals literal-rows tt
@@ -371,10 +439,37 @@ module _ (ns : List ℤ) (literals : List ℕ) (g : Accepted ns literals) where
   call-rows l i ih =
       let a : ℕ = natural (node-at ns l .a) in
       let b : ℕ = natural (node-at ns l .b) in
-      let f : Fits ns literals l = facts ns literals g l (i .0) (i .1) in
-      (λ q. tt, (λ q. tt, (λ q. tt, (λ q. tt, (λ q. tt,
-      (λ q. (ih a (f .a₆ q), ih b (f .b₆ q)), (λ q. (ih a (f .a₇ q), ih b (f .b₇ q)), (λ q. ih b (f .b₈ q), (λ q. ih a (f .a₉ q), (λ q. ih a (f .a₁₀ q),
-      (λ q. ih a (f .a₁₁ q), (λ q. ih a (f .a₁₂ q), (λ q. ih a (f .a₁₃ q), (λ q. ih a (f .a₁₄ q), (λ q. tt, (λ q. tt, (λ q. tt, (λ q. ih a (f .a₁₈ q), (λ q. tt, (λ q. f .call₂₀ q, tt))))))))))))))))))))
+      let f : Fits ns literals l = facts ns literals g l (i .0) (i .1) in (
+        λ q. tt,
+        (
+          λ q. tt,
+          (
+            λ q. tt,
+            (
+              λ q. tt,
+              (
+                λ q. tt,
+                (
+                  λ q. (ih a (f .a₆ q), ih b (f .b₆ q)),
+                  (
+                    λ q. (ih a (f .a₇ q), ih b (f .b₇ q)),
+                    (
+                      λ q. ih b (f .b₈ q),
+                      (
+                        λ q. ih a (f .a₉ q),
+                        (
+                          λ q. ih a (f .a₁₀ q),
+                          (λ q. ih a (f .a₁₁ q), (λ q. ih a (f .a₁₂ q), (λ q. ih a (f .a₁₃ q), (λ q. ih a (f .a₁₄ q), (λ q. tt, (λ q. tt, (λ q. tt, (λ q. ih a (f .a₁₈ q), (λ q. tt, (λ q. f .call₂₀ q, tt)))))))))),
+                        ),
+                      ),
+                    ),
+                  ),
+                ),
+              ),
+            ),
+          ),
+        ),
+      )
 
   pub tree-calls : (l : ℕ) → Calls (RuleLine ns) (tree-at ns literals l)
   tree-calls = everywhere ns literals g (Calls (RuleLine ns)) call-rows tt
@@ -398,11 +493,49 @@ module _ (ns : List ℤ) (literals : List ℕ) (g : Accepted ns literals) (set :
       let f : Fits ns literals l = facts ns literals g l (i .0) (i .1) in
       ap (still set) (tree-row ns literals g l (i .0) (i .1))
       ∙ by-kind ns literals g l (i .0) (i .1) (λ (x : Exp) (y : Bool). still set x ≡ y)
-      (tree-rows literals (tree-at ns literals) l n) (still-rows (eqb a 0) (eqb b 0) (nullable ns a) (nullable ns b)) end-of-input false refl
-      (λ q. ap (λ (m : ℕ). eqb m 0) (f .part₁ q .length-is), (λ q. ap (λ (m : ℕ). eqb m 0) (f .part₂ q .length-is), (λ q. refl, (λ q. refl, (λ q. refl,
-      (λ q. ap₂ (λ x y. x && y) (ih a (f .a₆ q)) (ih b (f .b₆ q)), (λ q. ap₂ (λ x y. x || y) (ih a (f .a₇ q)) (ih b (f .b₇ q)),
-      (λ q. ih b (f .b₈ q), (λ q. ih a (f .a₉ q), (λ q. refl, (λ q. refl, (λ q. refl, (λ q. ih a (f .a₁₃ q), (λ q. ih a (f .a₁₄ q),
-      (λ q. refl, (λ q. refl, (λ q. refl, (λ q. ih a (f .a₁₈ q), (λ q. refl, (λ q. same a (f .call₂₀ q), tt))))))))))))))))))))
+      (tree-rows literals (tree-at ns literals) l n) (still-rows (eqb a 0) (eqb b 0) (nullable ns a) (nullable ns b)) end-of-input false refl (
+        λ q. ap (λ (m : ℕ). eqb m 0) (f .part₁ q .length-is),
+        (
+          λ q. ap (λ (m : ℕ). eqb m 0) (f .part₂ q .length-is),
+          (
+            λ q. refl,
+            (
+              λ q. refl,
+              (
+                λ q. refl,
+                (
+                  λ q. ap₂ (λ x y. x && y) (ih a (f .a₆ q)) (ih b (f .b₆ q)),
+                  (
+                    λ q. ap₂ (λ x y. x || y) (ih a (f .a₇ q)) (ih b (f .b₇ q)),
+                    (
+                      λ q. ih b (f .b₈ q),
+                      (
+                        λ q. ih a (f .a₉ q),
+                        (
+                          λ q. refl,
+                          (
+                            λ q. refl,
+                            (
+                              λ q. refl,
+                              (
+                                λ q. ih a (f .a₁₃ q),
+                                (
+                                  λ q. ih a (f .a₁₄ q),
+                                  (λ q. refl, (λ q. refl, (λ q. refl, (λ q. ih a (f .a₁₈ q), (λ q. refl, (λ q. same a (f .call₂₀ q), tt)))))),
+                                ),
+                              ),
+                            ),
+                          ),
+                        ),
+                      ),
+                    ),
+                  ),
+                ),
+              ),
+            ),
+          ),
+        ),
+      )
       ∙ sym (nullable-is ns l (i .0) (i .1))
 
   pub tree-still : (l : ℕ) → In ns l → still set (tree-at ns literals l) ≡ nullable ns l
@@ -412,11 +545,37 @@ module _ (ns : List ℤ) (literals : List ℕ) (g : Accepted ns literals) (set :
   steady-rows l i ih =
       let a : ℕ = natural (node-at ns l .a) in
       let b : ℕ = natural (node-at ns l .b) in
-      let f : Fits ns literals l = facts ns literals g l (i .0) (i .1) in
-      (λ q. tt, (λ q. tt, (λ q. tt, (λ q. tt, (λ q. tt,
-      (λ q. (ih a (f .a₆ q), ih b (f .b₆ q)), (λ q. (ih a (f .a₇ q), ih b (f .b₇ q)), (λ q. ih b (f .b₈ q), (λ q. ih a (f .a₉ q),
-      (λ q. (tree-still a (f .a₁₀ q .low, omega (arith, f .a₁₀ q .high, i .1)) ∙ g .moves l (i .0) (i .1) q, ih a (f .a₁₀ q)),
-      (λ q. ih a (f .a₁₁ q), (λ q. ih a (f .a₁₂ q), (λ q. ih a (f .a₁₃ q), (λ q. ih a (f .a₁₄ q), (λ q. tt, (λ q. tt, (λ q. tt, (λ q. ih a (f .a₁₈ q), (λ q. tt, (λ q. tt, tt))))))))))))))))))))
+      let f : Fits ns literals l = facts ns literals g l (i .0) (i .1) in (
+        λ q. tt,
+        (
+          λ q. tt,
+          (
+            λ q. tt,
+            (
+              λ q. tt,
+              (
+                λ q. tt,
+                (
+                  λ q. (ih a (f .a₆ q), ih b (f .b₆ q)),
+                  (
+                    λ q. (ih a (f .a₇ q), ih b (f .b₇ q)),
+                    (
+                      λ q. ih b (f .b₈ q),
+                      (
+                        λ q. ih a (f .a₉ q),
+                        (
+                          λ q. (tree-still a (f .a₁₀ q .low, omega (arith, f .a₁₀ q .high, i .1)) ∙ g .moves l (i .0) (i .1) q, ih a (f .a₁₀ q)),
+                          (λ q. ih a (f .a₁₁ q), (λ q. ih a (f .a₁₂ q), (λ q. ih a (f .a₁₃ q), (λ q. ih a (f .a₁₄ q), (λ q. tt, (λ q. tt, (λ q. tt, (λ q. ih a (f .a₁₈ q), (λ q. tt, (λ q. tt, tt)))))))))),
+                        ),
+                      ),
+                    ),
+                  ),
+                ),
+              ),
+            ),
+          ),
+        ),
+      )
 
   pub tree-steady : (l : ℕ) → Steady set (tree-at ns literals l)
   tree-steady = everywhere ns literals g (Steady set) steady-rows tt
@@ -484,9 +643,37 @@ module _ (ns : List ℤ) (literals : List ℕ) (g : Accepted ns literals) (p : p
   whole-at l i e =
       let n : Node = node-at ns l in
       ap whole (tree-row ns literals g l (i .0) (i .1))
-      ∙ by-kind ns literals g l (i .0) (i .1) (λ (x y : Exp). whole x ≡ true) (tree-rows literals (tree-at ns literals) l n) (tree-rows literals (tree-at ns literals) l n) end-of-input end-of-input refl
-      (λ q. refl, (λ q. refl, (λ q. refl, (λ q. refl, (λ q. refl, (λ q. six-no l e q, (λ q. refl, (λ q. refl, (λ q. refl, (λ q. refl,
-      (λ q. refl, (λ q. refl, (λ q. refl, (λ q. refl, (λ q. refl, (λ q. refl, (λ q. refl, (λ q. refl, (λ q. refl, (λ q. refl, tt))))))))))))))))))))
+      ∙ by-kind ns literals g l (i .0) (i .1) (λ (x y : Exp). whole x ≡ true) (tree-rows literals (tree-at ns literals) l n) (tree-rows literals (tree-at ns literals) l n) end-of-input end-of-input refl (
+        λ q. refl,
+        (
+          λ q. refl,
+          (
+            λ q. refl,
+            (
+              λ q. refl,
+              (
+                λ q. refl,
+                (
+                  λ q. six-no l e q,
+                  (
+                    λ q. refl,
+                    (
+                      λ q. refl,
+                      (
+                        λ q. refl,
+                        (
+                          λ q. refl,
+                          (λ q. refl, (λ q. refl, (λ q. refl, (λ q. refl, (λ q. refl, (λ q. refl, (λ q. refl, (λ q. refl, (λ q. refl, (λ q. refl, tt)))))))))),
+                        ),
+                      ),
+                    ),
+                  ),
+                ),
+              ),
+            ),
+          ),
+        ),
+      )
 
   module _ (l : ℕ) (i : In ns l) where
     inside : (x : ℕ) → Lower l x → In ns x
@@ -501,15 +688,61 @@ module _ (ns : List ℤ) (literals : List ℕ) (g : Accepted ns literals) (p : p
         let b : ℕ = natural (node-at ns l .b) in
         let f : Fits ns literals l = facts ns literals g l (i .0) (i .1) in
         let r : (k : ℕ) → kind-at ns l ≡ k → getD (plain-rows (not-six ns a) (not-six ns b)) (k - 1) false ≡ true = plain-row l i in
-        let one : Lower l a → not-six ns a ≡ true → Plain (tree-at ns literals a) × (whole (tree-at ns literals a) ≡ true) = λ w e. (ih a w, whole-at a (inside a w) e) in
-        (λ q. tt, (λ q. tt, (λ q. tt, (λ q. tt, (λ q. tt,
-        (λ q. (ih a (f .a₆ q), ih b (f .b₆ q)),
-        (λ q. (ih a (f .a₇ q), ih b (f .b₇ q), whole-at a (inside a (f .a₇ q)) (and-left (not-six ns a) (not-six ns b) (r 7 q)), whole-at b (inside b (f .b₇ q)) (and-right (not-six ns a) (not-six ns b) (r 7 q))),
-        (λ q. (ih b (f .b₈ q), whole-at b (inside b (f .b₈ q)) (r 8 q)),
-        (λ q. ih a (f .a₉ q),
-        (λ q. one (f .a₁₀ q) (r 10 q), (λ q. one (f .a₁₁ q) (r 11 q), (λ q. one (f .a₁₂ q) (r 12 q), (λ q. one (f .a₁₃ q) (r 13 q),
-        (λ q. never 14 q refl, (λ q. never 15 q refl, (λ q. never 16 q refl, (λ q. never 17 q refl, (λ q. never 18 q refl,
-        (λ q. tt, (λ q. tt, tt))))))))))))))))))))
+        let one : Lower l a → not-six ns a ≡ true → Plain (tree-at ns literals a) × (whole (tree-at ns literals a) ≡ true) = λ w e. (ih a w, whole-at a (inside a w) e) in (
+          λ q. tt,
+          (
+            λ q. tt,
+            (
+              λ q. tt,
+              (
+                λ q. tt,
+                (
+                  λ q. tt,
+                  (
+                    λ q. (ih a (f .a₆ q), ih b (f .b₆ q)),
+                    (
+                      λ q. (ih a (f .a₇ q), ih b (f .b₇ q), whole-at a (inside a (f .a₇ q)) (and-left (not-six ns a) (not-six ns b) (r 7 q)), whole-at b (inside b (f .b₇ q)) (and-right (not-six ns a) (not-six ns b) (r 7 q))),
+                      (
+                        λ q. (ih b (f .b₈ q), whole-at b (inside b (f .b₈ q)) (r 8 q)),
+                        (
+                          λ q. ih a (f .a₉ q),
+                          (
+                            λ q. one (f .a₁₀ q) (r 10 q),
+                            (
+                              λ q. one (f .a₁₁ q) (r 11 q),
+                              (
+                                λ q. one (f .a₁₂ q) (r 12 q),
+                                (
+                                  λ q. one (f .a₁₃ q) (r 13 q),
+                                  (
+                                    λ q. never 14 q refl,
+                                    (
+                                      λ q. never 15 q refl,
+                                      (
+                                        λ q. never 16 q refl,
+                                        (
+                                          λ q. never 17 q refl,
+                                          (
+                                            λ q. never 18 q refl,
+                                            (λ q. tt, (λ q. tt, tt)),
+                                          ),
+                                        ),
+                                      ),
+                                    ),
+                                  ),
+                                ),
+                              ),
+                            ),
+                          ),
+                        ),
+                      ),
+                    ),
+                  ),
+                ),
+              ),
+            ),
+          ),
+        )
 
   pub tree-plain : (l : ℕ) → Plain (tree-at ns literals l)
   tree-plain = everywhere ns literals g Plain plain-each tt
