@@ -12,13 +12,16 @@ use lib.Dec.{eqb, leb, ltb}
 use lib.IntN.{ℤ, pos, negsuc}
 use lib.ListN.{length, getD, take, drop, length-append, List·getD-append, List·getD-eq-default}
 use lib.Seq.{getD-at}
-use borrow.Author.Tests.{eqb-true, eq-eqb, not-true, not-false}
-use Rattle.matching.specs.Utf8.{within, Utf8}
+use borrow.Author.Tests.{leb-true, eqb-true, eq-eqb, not-false}
+use Rattle.matching.specs.Utf8.{within, Utf8, is-utf8}
 use Rattle.matching.proofs.Lead.{and-left, and-right, within-true, within-is}
-use Rattle.engine.specs.declared.grammar.Tests.{Tests}
+use Rattle.matching.proofs.Characters.{is-utf8-iff}
+use Rattle.engine.specs.declared.grammar.Refused.the-variants.{No}
 use Rattle.engine.specs.Ending.{if_then_else_}
 use Rattle.engine.specs.Grammar.{Node, node-at, natural, kind-at, line-count, row, first-line, between, nil, scalar, count, name, edge, literal-part, called, fields-fit, line-fits, misfit, Exp, match-string, match-insensitive, match-range, skip, end-of-input, and-then, or-else, rule, sequence, repeat, optional, lookahead, atomic, stack-push, stack-pop, stack-match-peek-slice, stack-match-pop, restore-on-err, tag-node, call, atomicity-of, peek-slice, tree-of, trees, tree-at, rule-at, plain-line, plain}
 use Rattle.engine.specs.Nullable.{stands-still, nullable, still-repeat}
+use Rattle.engine.specs.Outcome.{Input, Refusal, refuse, unless, good-text, first-of, tests, refusal}
+use Rattle.engine.specs.Refusals.{refused-of}
 use Rattle.engine.specs.Lines.{tests-of, line-misfits, flagged-repeat}
 use Rattle.engine.proofs.EdgeLaws as EdgeLaws
 use Rattle.engine.proofs.GrammarLaws.{rows}
@@ -32,7 +35,7 @@ first-none test l zero e k lo hi = absurd (omega arith)
 first-none test l (suc n) e k lo hi = go (test l) refl e (first-none test (suc l) n) (decLe (suc l) k)
   where
     go : (b : Bool) → test l ≡ b → (if b then some l else first-line test (suc l) n) ≡ none
-      → (first-line test (suc l) n ≡ none → (k : ℕ) → suc l ≤ k → k < suc l + n → test k ≡ false) → Dec (suc l ≤ k) → test k ≡ false
+        → (first-line test (suc l) n ≡ none → (k : ℕ) → suc l ≤ k → k < suc l + n → test k ≡ false) → Dec (suc l ≤ k) → test k ≡ false
     go true t q r d = let z : _≡_ {A = ℕ} 0 1 = cc in absurd (omega arith)
     go false t q r (yes h) = r q k h (omega arith)
     go false t q r (no h) = let z : k ≡ l = omega arith in ap test z ∙ t
@@ -69,6 +72,10 @@ accepted ns literals m s =
     moves-at l k e = rw k at e
 
 -- ── A line that fits, unpacked by kind ──
+-- A line of the grammar.
+abbrev pub In : List ℤ → ℕ → Type 0
+In ns l = (1 ≤ l) × (l ≤ line-count ns)
+
 -- A line below `l`.
 pub record Lower (l x : ℕ) : Type 0 where
   pub low : 1 ≤ x
@@ -288,20 +295,61 @@ module _ (ns : List ℤ) (literals : List ℕ) (g : Accepted ns literals) (l : �
       let b : ℕ = natural (n .b) in
       let f : Fits ns literals l = facts in
       tree-step ns literals l lo hi
-      ∙ by-kind (λ x y. x ≡ y) (tree-rows literals (below-at ns literals (l - 1)) l n) (tree-rows literals (tree-at ns literals) l n) end-of-input end-of-input refl
-      (λ q. refl, (λ q. refl, (λ q. refl, (λ q. refl, (λ q. refl,
-      (λ q. ap₂ and-then (down a (f .a₆ q)) (down b (f .b₆ q)),
-      (λ q. ap₂ or-else (down a (f .a₇ q)) (down b (f .b₇ q)),
-      (λ q. ap (rule l a) (down b (f .b₈ q)),
-      (λ q. ap sequence (down a (f .a₉ q)),
-      (λ q. ap repeat (down a (f .a₁₀ q)),
-      (λ q. ap optional (down a (f .a₁₁ q)),
-      (λ q. ap (lookahead (eqb b 1)) (down a (f .a₁₂ q)),
-      (λ q. ap (atomic (atomicity-of b)) (down a (f .a₁₃ q)),
-      (λ q. ap (stack-push l) (down a (f .a₁₄ q)),
-      (λ q. refl, (λ q. refl, (λ q. refl,
-      (λ q. ap restore-on-err (down a (f .a₁₈ q)),
-      (λ q. refl, (λ q. refl, tt))))))))))))))))))))
+      ∙ by-kind (λ x y. x ≡ y) (tree-rows literals (below-at ns literals (l - 1)) l n) (tree-rows literals (tree-at ns literals) l n) end-of-input end-of-input refl (
+        λ q. refl,
+        (
+          λ q. refl,
+          (
+            λ q. refl,
+            (
+              λ q. refl,
+              (
+                λ q. refl,
+                (
+                  λ q. ap₂ and-then (down a (f .a₆ q)) (down b (f .b₆ q)),
+                  (
+                    λ q. ap₂ or-else (down a (f .a₇ q)) (down b (f .b₇ q)),
+                    (
+                      λ q. ap (rule l a) (down b (f .b₈ q)),
+                      (
+                        λ q. ap sequence (down a (f .a₉ q)),
+                        (
+                          λ q. ap repeat (down a (f .a₁₀ q)),
+                          (
+                            λ q. ap optional (down a (f .a₁₁ q)),
+                            (
+                              λ q. ap (lookahead (eqb b 1)) (down a (f .a₁₂ q)),
+                              (
+                                λ q. ap (atomic (atomicity-of b)) (down a (f .a₁₃ q)),
+                                (
+                                  λ q. ap (stack-push l) (down a (f .a₁₄ q)),
+                                  (
+                                    λ q. refl,
+                                    (
+                                      λ q. refl,
+                                      (
+                                        λ q. refl,
+                                        (
+                                          λ q. ap restore-on-err (down a (f .a₁₈ q)),
+                                          (λ q. refl, (λ q. refl, tt)),
+                                        ),
+                                      ),
+                                    ),
+                                  ),
+                                ),
+                              ),
+                            ),
+                          ),
+                        ),
+                      ),
+                    ),
+                  ),
+                ),
+              ),
+            ),
+          ),
+        ),
+      )
 
   -- The same at a kind: at 6, `tree-at l ≡ and-then (tree-at a) (tree-at b)`, and so for each.
   pub tree-kind : (k : ℕ) → kind-at ns l ≡ k → tree-at ns literals l ≡ getD (tree-rows literals (tree-at ns literals) l (node-at ns l)) (k - 1) end-of-input
@@ -316,26 +364,20 @@ module _ (ns : List ℤ) (literals : List ℕ) (g : Accepted ns literals) (l : �
 
 -- ── What holds of every line's tree, by induction over the lines ──
 module _ (ns : List ℤ) (literals : List ℕ) (g : Accepted ns literals) where
-  abbrev In : ℕ → Type 0
-  In l = (1 ≤ l) × (l ≤ line-count ns)
-
-  abbrev T : ℕ → Exp
-  T l = tree-at ns literals l
-
-  module _ (P : ℕ → Type 0) (step : (l : ℕ) → In l → ((x : ℕ) → Lower l x → P x) → P l) where
-    up-to : (m l : ℕ) → In l → l ≤ m → P l
+  module _ (P : ℕ → Type 0) (step : (l : ℕ) → In ns l → ((x : ℕ) → Lower l x → P x) → P l) where
+    up-to : (m l : ℕ) → In ns l → l ≤ m → P l
     up-to zero l i h = absurd (omega (arith, i .0))
     up-to (suc m) l i h = step l i (λ x w. up-to m x (w .low, omega (arith, w .high, i .1)) (omega (arith, w .high)))
 
-    by-lines : (l : ℕ) → In l → P l
+    by-lines : (l : ℕ) → In ns l → P l
     by-lines l i = up-to l l i (omega arith)
 
   -- A property of trees that each kind has, if the trees that it is made of have it.
   abbrev Rows : (Exp → Type 0) → ℕ → Type 0
   Rows P l = Each (λ (x y : Exp). P x) (kind-at ns l) 0 (tree-rows literals (tree-at ns literals) l (node-at ns l)) (tree-rows literals (tree-at ns literals) l (node-at ns l))
 
-  module _ (P : Exp → Type 0) (each : (l : ℕ) → In l → ((x : ℕ) → Lower l x → P (tree-at ns literals x)) → Rows P l) where
-    pub every-line : (l : ℕ) → In l → P (tree-at ns literals l)
+  module _ (P : Exp → Type 0) (each : (l : ℕ) → In ns l → ((x : ℕ) → Lower l x → P (tree-at ns literals x)) → Rows P l) where
+    pub every-line : (l : ℕ) → In ns l → P (tree-at ns literals l)
     every-line =
         by-lines (λ l. P (tree-at ns literals l))
         (λ l i ih. subst P (sym (tree-row ns literals g l (i .0) (i .1))) (by-kind ns literals g l (i .0) (i .1) (λ (x y : Exp). P x) (tree-rows literals (tree-at ns literals) l (node-at ns l)) (tree-rows literals (tree-at ns literals) l (node-at ns l)) end-of-input end-of-input refl (each l i ih)))
@@ -351,14 +393,41 @@ module _ (ns : List ℤ) (literals : List ℕ) (g : Accepted ns literals) where
 
 -- ── The literals of every tree are whole characters, and its calls name rules ──
 module _ (ns : List ℤ) (literals : List ℕ) (g : Accepted ns literals) where
-  literal-rows : (l : ℕ) → In ns literals g l → ((x : ℕ) → Lower l x → Literals (tree-at ns literals x)) → Rows ns literals g Literals l
+  literal-rows : (l : ℕ) → In ns l → ((x : ℕ) → Lower l x → Literals (tree-at ns literals x)) → Rows ns literals g Literals l
   literal-rows l i ih =
       let a : ℕ = natural (node-at ns l .a) in
       let b : ℕ = natural (node-at ns l .b) in
-      let f : Fits ns literals l = facts ns literals g l (i .0) (i .1) in
-      (λ q. f .part₁ q .text, (λ q. f .part₂ q .text, (λ q. tt, (λ q. tt, (λ q. tt,
-      (λ q. (ih a (f .a₆ q), ih b (f .b₆ q)), (λ q. (ih a (f .a₇ q), ih b (f .b₇ q)), (λ q. ih b (f .b₈ q), (λ q. ih a (f .a₉ q), (λ q. ih a (f .a₁₀ q),
-      (λ q. ih a (f .a₁₁ q), (λ q. ih a (f .a₁₂ q), (λ q. ih a (f .a₁₃ q), (λ q. ih a (f .a₁₄ q), (λ q. tt, (λ q. tt, (λ q. tt, (λ q. ih a (f .a₁₈ q), (λ q. tt, (λ q. tt, tt))))))))))))))))))))
+      let f : Fits ns literals l = facts ns literals g l (i .0) (i .1) in (
+        λ q. f .part₁ q .text,
+        (
+          λ q. f .part₂ q .text,
+          (
+            λ q. tt,
+            (
+              λ q. tt,
+              (
+                λ q. tt,
+                (
+                  λ q. (ih a (f .a₆ q), ih b (f .b₆ q)),
+                  (
+                    λ q. (ih a (f .a₇ q), ih b (f .b₇ q)),
+                    (
+                      λ q. ih b (f .b₈ q),
+                      (
+                        λ q. ih a (f .a₉ q),
+                        (
+                          λ q. ih a (f .a₁₀ q),
+                          (λ q. ih a (f .a₁₁ q), (λ q. ih a (f .a₁₂ q), (λ q. ih a (f .a₁₃ q), (λ q. ih a (f .a₁₄ q), (λ q. tt, (λ q. tt, (λ q. tt, (λ q. ih a (f .a₁₈ q), (λ q. tt, (λ q. tt, tt)))))))))),
+                        ),
+                      ),
+                    ),
+                  ),
+                ),
+              ),
+            ),
+          ),
+        ),
+      )
 
   pub tree-literals : (l : ℕ) → Literals (tree-at ns literals l)
   tree-literals = everywhere ns literals g Literals literal-rows tt
@@ -366,14 +435,41 @@ module _ (ns : List ℤ) (literals : List ℕ) (g : Accepted ns literals) where
   pub body-literals : (l : ℕ) → Literals (rule-at ns literals l .body)
   body-literals l = tree-literals (natural (node-at ns l .b))
 
-  call-rows : (l : ℕ) → In ns literals g l → ((x : ℕ) → Lower l x → Calls (RuleLine ns) (tree-at ns literals x)) → Rows ns literals g (Calls (RuleLine ns)) l
+  call-rows : (l : ℕ) → In ns l → ((x : ℕ) → Lower l x → Calls (RuleLine ns) (tree-at ns literals x)) → Rows ns literals g (Calls (RuleLine ns)) l
   call-rows l i ih =
       let a : ℕ = natural (node-at ns l .a) in
       let b : ℕ = natural (node-at ns l .b) in
-      let f : Fits ns literals l = facts ns literals g l (i .0) (i .1) in
-      (λ q. tt, (λ q. tt, (λ q. tt, (λ q. tt, (λ q. tt,
-      (λ q. (ih a (f .a₆ q), ih b (f .b₆ q)), (λ q. (ih a (f .a₇ q), ih b (f .b₇ q)), (λ q. ih b (f .b₈ q), (λ q. ih a (f .a₉ q), (λ q. ih a (f .a₁₀ q),
-      (λ q. ih a (f .a₁₁ q), (λ q. ih a (f .a₁₂ q), (λ q. ih a (f .a₁₃ q), (λ q. ih a (f .a₁₄ q), (λ q. tt, (λ q. tt, (λ q. tt, (λ q. ih a (f .a₁₈ q), (λ q. tt, (λ q. f .call₂₀ q, tt))))))))))))))))))))
+      let f : Fits ns literals l = facts ns literals g l (i .0) (i .1) in (
+        λ q. tt,
+        (
+          λ q. tt,
+          (
+            λ q. tt,
+            (
+              λ q. tt,
+              (
+                λ q. tt,
+                (
+                  λ q. (ih a (f .a₆ q), ih b (f .b₆ q)),
+                  (
+                    λ q. (ih a (f .a₇ q), ih b (f .b₇ q)),
+                    (
+                      λ q. ih b (f .b₈ q),
+                      (
+                        λ q. ih a (f .a₉ q),
+                        (
+                          λ q. ih a (f .a₁₀ q),
+                          (λ q. ih a (f .a₁₁ q), (λ q. ih a (f .a₁₂ q), (λ q. ih a (f .a₁₃ q), (λ q. ih a (f .a₁₄ q), (λ q. tt, (λ q. tt, (λ q. tt, (λ q. ih a (f .a₁₈ q), (λ q. tt, (λ q. f .call₂₀ q, tt)))))))))),
+                        ),
+                      ),
+                    ),
+                  ),
+                ),
+              ),
+            ),
+          ),
+        ),
+      )
 
   pub tree-calls : (l : ℕ) → Calls (RuleLine ns) (tree-at ns literals l)
   tree-calls = everywhere ns literals g (Calls (RuleLine ns)) call-rows tt
@@ -388,7 +484,7 @@ module _ (ns : List ℤ) (literals : List ℕ) (g : Accepted ns literals) where
 -- ── Standing still: the set over lines is what the trees compute ──
 -- `set` may say anything of lines that are no rules: no tree calls them.
 module _ (ns : List ℤ) (literals : List ℕ) (g : Accepted ns literals) (set : ℕ → Bool) (same : (l : ℕ) → RuleLine ns l → set l ≡ nullable ns l) where
-  still-step : (l : ℕ) → In ns literals g l → ((x : ℕ) → Lower l x → still set (tree-at ns literals x) ≡ nullable ns x) → still set (tree-at ns literals l) ≡ nullable ns l
+  still-step : (l : ℕ) → In ns l → ((x : ℕ) → Lower l x → still set (tree-at ns literals x) ≡ nullable ns x) → still set (tree-at ns literals l) ≡ nullable ns l
   unfolding stands-still
   still-step l i ih =
       let n : Node = node-at ns l in
@@ -397,25 +493,89 @@ module _ (ns : List ℤ) (literals : List ℕ) (g : Accepted ns literals) (set :
       let f : Fits ns literals l = facts ns literals g l (i .0) (i .1) in
       ap (still set) (tree-row ns literals g l (i .0) (i .1))
       ∙ by-kind ns literals g l (i .0) (i .1) (λ (x : Exp) (y : Bool). still set x ≡ y)
-      (tree-rows literals (tree-at ns literals) l n) (still-rows (eqb a 0) (eqb b 0) (nullable ns a) (nullable ns b)) end-of-input false refl
-      (λ q. ap (λ (m : ℕ). eqb m 0) (f .part₁ q .length-is), (λ q. ap (λ (m : ℕ). eqb m 0) (f .part₂ q .length-is), (λ q. refl, (λ q. refl, (λ q. refl,
-      (λ q. ap₂ (λ x y. x && y) (ih a (f .a₆ q)) (ih b (f .b₆ q)), (λ q. ap₂ (λ x y. x || y) (ih a (f .a₇ q)) (ih b (f .b₇ q)),
-      (λ q. ih b (f .b₈ q), (λ q. ih a (f .a₉ q), (λ q. refl, (λ q. refl, (λ q. refl, (λ q. ih a (f .a₁₃ q), (λ q. ih a (f .a₁₄ q),
-      (λ q. refl, (λ q. refl, (λ q. refl, (λ q. ih a (f .a₁₈ q), (λ q. refl, (λ q. same a (f .call₂₀ q), tt))))))))))))))))))))
+      (tree-rows literals (tree-at ns literals) l n) (still-rows (eqb a 0) (eqb b 0) (nullable ns a) (nullable ns b)) end-of-input false refl (
+        λ q. ap (λ (m : ℕ). eqb m 0) (f .part₁ q .length-is),
+        (
+          λ q. ap (λ (m : ℕ). eqb m 0) (f .part₂ q .length-is),
+          (
+            λ q. refl,
+            (
+              λ q. refl,
+              (
+                λ q. refl,
+                (
+                  λ q. ap₂ (λ x y. x && y) (ih a (f .a₆ q)) (ih b (f .b₆ q)),
+                  (
+                    λ q. ap₂ (λ x y. x || y) (ih a (f .a₇ q)) (ih b (f .b₇ q)),
+                    (
+                      λ q. ih b (f .b₈ q),
+                      (
+                        λ q. ih a (f .a₉ q),
+                        (
+                          λ q. refl,
+                          (
+                            λ q. refl,
+                            (
+                              λ q. refl,
+                              (
+                                λ q. ih a (f .a₁₃ q),
+                                (
+                                  λ q. ih a (f .a₁₄ q),
+                                  (λ q. refl, (λ q. refl, (λ q. refl, (λ q. ih a (f .a₁₈ q), (λ q. refl, (λ q. same a (f .call₂₀ q), tt)))))),
+                                ),
+                              ),
+                            ),
+                          ),
+                        ),
+                      ),
+                    ),
+                  ),
+                ),
+              ),
+            ),
+          ),
+        ),
+      )
       ∙ sym (nullable-is ns l (i .0) (i .1))
 
-  pub tree-still : (l : ℕ) → In ns literals g l → still set (tree-at ns literals l) ≡ nullable ns l
+  pub tree-still : (l : ℕ) → In ns l → still set (tree-at ns literals l) ≡ nullable ns l
   tree-still = by-lines ns literals g (λ l. still set (tree-at ns literals l) ≡ nullable ns l) still-step
 
-  steady-rows : (l : ℕ) → In ns literals g l → ((x : ℕ) → Lower l x → Steady set (tree-at ns literals x)) → Rows ns literals g (Steady set) l
+  steady-rows : (l : ℕ) → In ns l → ((x : ℕ) → Lower l x → Steady set (tree-at ns literals x)) → Rows ns literals g (Steady set) l
   steady-rows l i ih =
       let a : ℕ = natural (node-at ns l .a) in
       let b : ℕ = natural (node-at ns l .b) in
-      let f : Fits ns literals l = facts ns literals g l (i .0) (i .1) in
-      (λ q. tt, (λ q. tt, (λ q. tt, (λ q. tt, (λ q. tt,
-      (λ q. (ih a (f .a₆ q), ih b (f .b₆ q)), (λ q. (ih a (f .a₇ q), ih b (f .b₇ q)), (λ q. ih b (f .b₈ q), (λ q. ih a (f .a₉ q),
-      (λ q. (tree-still a (f .a₁₀ q .low, omega (arith, f .a₁₀ q .high, i .1)) ∙ g .moves l (i .0) (i .1) q, ih a (f .a₁₀ q)),
-      (λ q. ih a (f .a₁₁ q), (λ q. ih a (f .a₁₂ q), (λ q. ih a (f .a₁₃ q), (λ q. ih a (f .a₁₄ q), (λ q. tt, (λ q. tt, (λ q. tt, (λ q. ih a (f .a₁₈ q), (λ q. tt, (λ q. tt, tt))))))))))))))))))))
+      let f : Fits ns literals l = facts ns literals g l (i .0) (i .1) in (
+        λ q. tt,
+        (
+          λ q. tt,
+          (
+            λ q. tt,
+            (
+              λ q. tt,
+              (
+                λ q. tt,
+                (
+                  λ q. (ih a (f .a₆ q), ih b (f .b₆ q)),
+                  (
+                    λ q. (ih a (f .a₇ q), ih b (f .b₇ q)),
+                    (
+                      λ q. ih b (f .b₈ q),
+                      (
+                        λ q. ih a (f .a₉ q),
+                        (
+                          λ q. (tree-still a (f .a₁₀ q .low, omega (arith, f .a₁₀ q .high, i .1)) ∙ g .moves l (i .0) (i .1) q, ih a (f .a₁₀ q)),
+                          (λ q. ih a (f .a₁₁ q), (λ q. ih a (f .a₁₂ q), (λ q. ih a (f .a₁₃ q), (λ q. ih a (f .a₁₄ q), (λ q. tt, (λ q. tt, (λ q. tt, (λ q. ih a (f .a₁₈ q), (λ q. tt, (λ q. tt, tt)))))))))),
+                        ),
+                      ),
+                    ),
+                  ),
+                ),
+              ),
+            ),
+          ),
+        ),
+      )
 
   pub tree-steady : (l : ℕ) → Steady set (tree-at ns literals l)
   tree-steady = everywhere ns literals g (Steady set) steady-rows tt
@@ -430,6 +590,14 @@ module _ (ns : List ℤ) (literals : List ℕ) (g : Accepted ns literals) (set :
       let w : Lower l (natural (node-at ns l .b)) = body-lower ns literals g l r in
       tree-still (natural (node-at ns l .b)) (w .low, omega (arith, w .high, r .high))
       ∙ sym (nullable-is ns l (r .low) (r .high) ∙ ap (λ (k : ℕ). getD (still-rows (eqb (natural (node-at ns l .a)) 0) (eqb (natural (node-at ns l .b)) 0) (nullable ns (natural (node-at ns l .a))) (nullable ns (natural (node-at ns l .b)))) (k - 1) false) (r .kind-is))
+
+-- The same of the set itself.
+module _ (ns : List ℤ) (literals : List ℕ) (g : Accepted ns literals) where
+  pub nullable-tree : (l : ℕ) → In ns l → still (nullable ns) (tree-at ns literals l) ≡ nullable ns l
+  nullable-tree = tree-still ns literals g (nullable ns) (λ l r. refl)
+
+  pub steady-tree : (l : ℕ) → Steady (nullable ns) (tree-at ns literals l)
+  steady-tree = tree-steady ns literals g (nullable ns) (λ l r. refl)
 
 -- The set for laws that speak of every number as a line: a rule as the set says, any other line may.
 abbrev pub rule-still : List ℤ → ℕ → Bool
@@ -451,3 +619,199 @@ module _ (ns : List ℤ) (literals : List ℕ) (g : Accepted ns literals) where
           let w : (1 ≤ l) × (l ≤ line-count ns) = within-true 1 (line-count ns) l (and-left (within 1 (line-count ns) l) _ t) in
           let k : kind-at ns l ≡ 8 = eqb-true (kind-at ns l) 8 (and-right (within 1 (line-count ns) l) _ t) in
           body-still ns literals g (rule-still ns) (rule-still-is ns) l (record { low = w .0; high = w .1; kind-is = k }) ∙ q
+
+-- ── Plain grammars ──
+-- The twenty rows of `plain-line`; a and b: the lines named there are not of kind 6.
+abbrev plain-rows : (a b : Bool) → List Bool
+plain-rows a b =
+    true ∷ true ∷ true ∷ true ∷ true ∷ true ∷ (a && b) ∷ b ∷ true ∷ a ∷ a ∷ a ∷ a ∷ false ∷ false ∷ false ∷ false ∷ false ∷ true ∷ true ∷ []
+
+abbrev not-six : List ℤ → ℕ → Bool
+not-six ns l = not (eqb (kind-at ns l) 6)
+
+module _ (ns : List ℤ) (literals : List ℕ) (g : Accepted ns literals) (p : plain ns ≡ none) where
+  plain-row : (l : ℕ) → In ns l → (k : ℕ) → kind-at ns l ≡ k → getD (plain-rows (not-six ns (natural (node-at ns l .a))) (not-six ns (natural (node-at ns l .b)))) (k - 1) false ≡ true
+  plain-row l i k q =
+      let f : plain-line ns l ≡ true = not-false (plain-line ns l) (none-found (λ j. not (plain-line ns j)) (line-count ns) p l (i .0) (i .1)) in
+      ap (λ (j : ℕ). getD (plain-rows (not-six ns (natural (node-at ns l .a))) (not-six ns (natural (node-at ns l .b)))) (j - 1) false) (sym q) ∙ f
+
+  six-no : (l : ℕ) → not-six ns l ≡ true → kind-at ns l ≡ 6 → false ≡ true
+  six-no l e q = absurd (true≢false (sym e ∙ ap not (eq-eqb (kind-at ns l) 6 q)))
+
+  -- A line that is not of kind 6 has a whole tree.
+  whole-at : (l : ℕ) → In ns l → not-six ns l ≡ true → whole (tree-at ns literals l) ≡ true
+  whole-at l i e =
+      let n : Node = node-at ns l in
+      ap whole (tree-row ns literals g l (i .0) (i .1))
+      ∙ by-kind ns literals g l (i .0) (i .1) (λ (x y : Exp). whole x ≡ true) (tree-rows literals (tree-at ns literals) l n) (tree-rows literals (tree-at ns literals) l n) end-of-input end-of-input refl (
+        λ q. refl,
+        (
+          λ q. refl,
+          (
+            λ q. refl,
+            (
+              λ q. refl,
+              (
+                λ q. refl,
+                (
+                  λ q. six-no l e q,
+                  (
+                    λ q. refl,
+                    (
+                      λ q. refl,
+                      (
+                        λ q. refl,
+                        (
+                          λ q. refl,
+                          (λ q. refl, (λ q. refl, (λ q. refl, (λ q. refl, (λ q. refl, (λ q. refl, (λ q. refl, (λ q. refl, (λ q. refl, (λ q. refl, tt)))))))))),
+                        ),
+                      ),
+                    ),
+                  ),
+                ),
+              ),
+            ),
+          ),
+        ),
+      )
+
+  module _ (l : ℕ) (i : In ns l) where
+    inside : (x : ℕ) → Lower l x → In ns x
+    inside x w = (w .low, omega (arith, w .high, i .1))
+
+    never : {A : Type 0} (k : ℕ) → kind-at ns l ≡ k → getD (plain-rows (not-six ns (natural (node-at ns l .a))) (not-six ns (natural (node-at ns l .b)))) (k - 1) false ≡ false → A
+    never k q e = absurd (true≢false (sym (plain-row l i k q) ∙ e))
+
+    plain-each : ((x : ℕ) → Lower l x → Plain (tree-at ns literals x)) → Rows ns literals g Plain l
+    plain-each ih =
+        let a : ℕ = natural (node-at ns l .a) in
+        let b : ℕ = natural (node-at ns l .b) in
+        let f : Fits ns literals l = facts ns literals g l (i .0) (i .1) in
+        let r : (k : ℕ) → kind-at ns l ≡ k → getD (plain-rows (not-six ns a) (not-six ns b)) (k - 1) false ≡ true = plain-row l i in
+        let one : Lower l a → not-six ns a ≡ true → Plain (tree-at ns literals a) × (whole (tree-at ns literals a) ≡ true) = λ w e. (ih a w, whole-at a (inside a w) e) in (
+          λ q. tt,
+          (
+            λ q. tt,
+            (
+              λ q. tt,
+              (
+                λ q. tt,
+                (
+                  λ q. tt,
+                  (
+                    λ q. (ih a (f .a₆ q), ih b (f .b₆ q)),
+                    (
+                      λ q. (ih a (f .a₇ q), ih b (f .b₇ q), whole-at a (inside a (f .a₇ q)) (and-left (not-six ns a) (not-six ns b) (r 7 q)), whole-at b (inside b (f .b₇ q)) (and-right (not-six ns a) (not-six ns b) (r 7 q))),
+                      (
+                        λ q. (ih b (f .b₈ q), whole-at b (inside b (f .b₈ q)) (r 8 q)),
+                        (
+                          λ q. ih a (f .a₉ q),
+                          (
+                            λ q. one (f .a₁₀ q) (r 10 q),
+                            (
+                              λ q. one (f .a₁₁ q) (r 11 q),
+                              (
+                                λ q. one (f .a₁₂ q) (r 12 q),
+                                (
+                                  λ q. one (f .a₁₃ q) (r 13 q),
+                                  (
+                                    λ q. never 14 q refl,
+                                    (
+                                      λ q. never 15 q refl,
+                                      (
+                                        λ q. never 16 q refl,
+                                        (
+                                          λ q. never 17 q refl,
+                                          (
+                                            λ q. never 18 q refl,
+                                            (λ q. tt, (λ q. tt, tt)),
+                                          ),
+                                        ),
+                                      ),
+                                    ),
+                                  ),
+                                ),
+                              ),
+                            ),
+                          ),
+                        ),
+                      ),
+                    ),
+                  ),
+                ),
+              ),
+            ),
+          ),
+        )
+
+  pub tree-plain : (l : ℕ) → Plain (tree-at ns literals l)
+  tree-plain = everywhere ns literals g Plain plain-each tt
+
+  -- A rule's body is plain and not of kind 6.
+  pub body-plain : (l : ℕ) → Plain (rule-at ns literals l .body)
+  body-plain l = tree-plain (natural (node-at ns l .b))
+
+  pub body-whole : (l : ℕ) → RuleLine ns l → whole (rule-at ns literals l .body) ≡ true
+  body-whole l r =
+      let w : Lower l (natural (node-at ns l .b)) = body-lower ns literals g l r in
+      whole-at (natural (node-at ns l .b)) (w .low, omega (arith, w .high, r .high)) (plain-row l (r .low, r .high) 8 (r .kind-is))
+
+-- ── All tests passed ──
+pub record Started (i : Input) : Type 0 where
+  pub literals-short : length (i .literals) ≤ 65535
+  pub literals-whole : Utf8 (i .literals)
+  pub grammar : Accepted (i .nodes) (i .literals)
+  pub text-short : length (i .text) ≤ 65535
+  pub text-whole : Utf8 (i .text)
+  pub depth-low : 1 ≤ i .depth-limit
+  pub depth-high : i .depth-limit ≤ 1024
+  pub report-room : 515 ≤ length (i .report)
+  pub scratch-room : 4864 ≤ i .scratch
+
+pub not-refused : (o : Option Refusal) → No ≡ refused-of o → o ≡ none
+not-refused none e = refl
+not-refused (some r) e = let z : _≡_ {A = ℕ} 0 1 = cc in absurd (omega arith)
+
+abbrev AllNone : List (Option Refusal) → Type 0
+AllNone [] = Unit {0}
+AllNone (t ∷ ts) = (t ≡ none) × AllNone ts
+
+all-none : (ts : List (Option Refusal)) → first-of ts ≡ none → AllNone ts
+all-none [] e = tt
+all-none (none ∷ ts) e = (refl, all-none ts e)
+all-none (some r ∷ ts) e = let z : _≡_ {A = ℕ} 0 1 = cc in absurd (omega arith)
+
+refuse-none : (n : ℕ) (o : Option ℕ) → refuse n o ≡ none → o ≡ none
+refuse-none n none e = refl
+refuse-none n (some p) e = let z : _≡_ {A = ℕ} 0 1 = cc in absurd (omega arith)
+
+unless-none : (b : Bool) → unless b ≡ none → b ≡ true
+unless-none true e = refl
+unless-none false e = let z : _≡_ {A = ℕ} 0 1 = cc in absurd (omega arith)
+
+good-short : (x : List ℕ) → good-text x ≡ true → length x ≤ 65535
+good-short x e = leb-true (length x) 65535 (and-left (leb (length x) 65535) (is-utf8 x) e)
+
+good-whole : (x : List ℕ) → good-text x ≡ true → Utf8 x
+good-whole x e = is-utf8-iff x .0 (and-right (leb (length x) 65535) (is-utf8 x) e)
+
+pub started : (i : Input) → refusal i ≡ none → Started i
+unfolding refusal
+started i e =
+    let h : AllNone (tests i) = all-none (tests i) e in
+    let good : (n : ℕ) (b : Bool) → refuse n (unless b) ≡ none → b ≡ true = λ n b q. unless-none b (refuse-none n (unless b) q) in
+    let g₄ : good-text (i .literals) ≡ true = good 4 (good-text (i .literals)) (h .0) in
+    let g₇ : good-text (i .text) ≡ true = good 7 (good-text (i .text)) (h .1 .1 .1 .0) in
+    let d : (1 ≤ i .depth-limit) × (i .depth-limit ≤ 1024) = within-true 1 1024 (i .depth-limit) (good 8 (within 1 1024 (i .depth-limit)) (h .1 .1 .1 .1 .0)) in
+    let a : (leb 515 (length (i .report)) && leb 4864 (i .scratch)) ≡ true = good 9 (leb 515 (length (i .report)) && leb 4864 (i .scratch)) (h .1 .1 .1 .1 .1 .0) in
+    record {
+      literals-short = good-short (i .literals) g₄;
+      literals-whole = good-whole (i .literals) g₄;
+      grammar = accepted (i .nodes) (i .literals) (refuse-none 5 (misfit (i .nodes) (i .literals)) (h .1 .0)) (refuse-none 6 (still-repeat (i .nodes)) (h .1 .1 .0));
+      text-short = good-short (i .text) g₇;
+      text-whole = good-whole (i .text) g₇;
+      depth-low = d .0;
+      depth-high = d .1;
+      report-room = leb-true 515 (length (i .report)) (and-left (leb 515 (length (i .report))) _ a);
+      scratch-room = leb-true 4864 (i .scratch) (and-right (leb 515 (length (i .report))) _ a);
+    }
