@@ -73,31 +73,37 @@ module _ (low high from to : ℕ) (l : 0x80 ≤ from) (h : to ≤ 0xBF) where
       four a t u w v x (omega (arith, r), omega (arith, r)) (omega (arith, s), omega (arith, s)) k m z (omega (arith, r, s, k, m))
 
 -- Each row gives a form, so the first that fits does.
-module _ (x : List ℕ) where
-  abbrev Rows : List (List Range) → Type 0
-  Rows [] = Unit {0}
-  Rows (f ∷ fs) = ((v : ℕ) → fits f x ≡ true → v ≡ value-of (length f) x → Form x (length f) v) × Rows fs
+infixr 20 _or-row_
+data Rows (x : List ℕ) : List (List Range) → Type 0 where
+  no-row : Rows x []
+  _or-row_ : {f : List Range} {fs : List (List Range)} → ((v : ℕ) → fits f x ≡ true → v ≡ value-of (length f) x → Form x (length f) v) → Rows x fs → Rows x (f ∷ fs)
 
-  by-rows : (fs : List (List Range)) → Rows fs → (c : Character) → first-of fs x ≡ some c → Form x (c .size) (c .value)
-  by-rows [] r c e = let z : _≡_ {A = ℕ} 0 1 = cc in absurd (omega arith)
-  by-rows (f ∷ fs) r c e = go (fits f x) refl e (by-rows fs (r .1) c)
-    where
-      go : (b : Bool) → fits f x ≡ b → cond b (some (record { size = length f; value = value-of (length f) x })) (first-of fs x) ≡ some c → (first-of fs x ≡ some c → Form x (c .size) (c .value)) → Form x (c .size) (c .value)
-      go true q e ih =
-          let k : record { size = length f; value = value-of (length f) x } ≡ c = cc in
-          subst (λ (d : Character). Form x (d .size) (d .value)) k (r .0 (value-of (length f) x) q refl)
-      go false q e ih = ih e
+by-rows : (x : List ℕ) (fs : List (List Range)) → Rows x fs → (c : Character) → first-of fs x ≡ some c → Form x (c .size) (c .value)
+by-rows x fs no-row c e = let z : _≡_ {A = ℕ} 0 1 = cc in absurd (omega arith)
+by-rows x _ (_or-row_ {f = f} {fs = gs} r rs) c e = go (fits f x) refl e (by-rows x gs rs c)
+  where
+    go : (b : Bool) → fits f x ≡ b → cond b (some (record { size = length f; value = value-of (length f) x })) (first-of gs x) ≡ some c → (first-of gs x ≡ some c → Form x (c .size) (c .value)) → Form x (c .size) (c .value)
+    go true q e ih =
+        let k : record { size = length f; value = value-of (length f) x } ≡ c = cc in
+        subst (λ (d : Character). Form x (d .size) (d .value)) k (r (value-of (length f) x) q refl)
+    go false q e ih = ih e
+
+table : (x : List ℕ) → Rows x utf8-char
+table x =
+    form-one x
+    or-row form-two x
+    or-row form-three 0xE0 0xE0 0xA0 0xBF (omega arith) (omega arith) (omega arith) (omega arith) (omega arith) x
+    or-row form-three 0xE1 0xEC 0x80 0xBF (omega arith) (omega arith) (omega arith) (omega arith) (omega arith) x
+    or-row form-three 0xED 0xED 0x80 0x9F (omega arith) (omega arith) (omega arith) (omega arith) (omega arith) x
+    or-row form-three 0xEE 0xEF 0x80 0xBF (omega arith) (omega arith) (omega arith) (omega arith) (omega arith) x
+    or-row form-four 0xF0 0xF0 0x90 0xBF (omega arith) (omega arith) (omega arith) (omega arith) (omega arith) x
+    or-row form-four 0xF1 0xF3 0x80 0xBF (omega arith) (omega arith) (omega arith) (omega arith) (omega arith) x
+    or-row form-four 0xF4 0xF4 0x80 0x8F (omega arith) (omega arith) (omega arith) (omega arith) (omega arith) x
+    or-row no-row
 
 pub form-of : (x : List ℕ) (c : Character) → decode x ≡ some c → Form x (c .size) (c .value)
 unfolding decode
-form-of x c e = by-rows x utf8-char (form-one x, (form-two x, (
-      form-three 0xE0 0xE0 0xA0 0xBF (omega arith) (omega arith) (omega arith) (omega arith) (omega arith) x, (
-      form-three 0xE1 0xEC 0x80 0xBF (omega arith) (omega arith) (omega arith) (omega arith) (omega arith) x, (
-      form-three 0xED 0xED 0x80 0x9F (omega arith) (omega arith) (omega arith) (omega arith) (omega arith) x, (
-      form-three 0xEE 0xEF 0x80 0xBF (omega arith) (omega arith) (omega arith) (omega arith) (omega arith) x, (
-      form-four 0xF0 0xF0 0x90 0xBF (omega arith) (omega arith) (omega arith) (omega arith) (omega arith) x, (
-      form-four 0xF1 0xF3 0x80 0xBF (omega arith) (omega arith) (omega arith) (omega arith) (omega arith) x, (
-      form-four 0xF4 0xF4 0x80 0x8F (omega arith) (omega arith) (omega arith) (omega arith) (omega arith) x, tt))))))))) c e
+form-of x c e = by-rows x utf8-char (table x) c e
 
 -- ── Comparisons that are equality outside ASCII ──
 pub record Ascii (same : ℕ → ℕ → Bool) : Type 0 where

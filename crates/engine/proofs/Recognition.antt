@@ -470,7 +470,7 @@ module _ (g : Setting) where
 -- The rules at some lines are plain, and call rules at such lines only.
 pub record PlainRules (g : Setting) (lines : ℕ → Type 0) : Type 0 where
   pub plain : (l : ℕ) → lines l → Plain (g .rule-at l .body)
-  pub no-sequel : (l : ℕ) → lines l → whole (g .rule-at l .body) ≡ true
+  pub whole-body : (l : ℕ) → lines l → whole (g .rule-at l .body) ≡ true
   pub calls : (l : ℕ) → lines l → Calls lines (g .rule-at l .body)
 
 module _ (g : Setting) (set : ℕ → Bool) (w : Tested g set) (lines : ℕ → Type 0) (v : PlainRules g lines) where
@@ -518,7 +518,7 @@ module _ (g : Setting) (set : ℕ → Bool) (w : Tested g set) (lines : ℕ → 
     level-means (Grammar.tag-node t) p c u y = tag-means g t
     level-means (Grammar.call l) p c u y = λ m x.
         let r : RuleLine = g .rule-at l in
-        nonterminal-means g l _ (counted (peg (r .body)) (λ n. Pest.rule g true (r .line) (r .rule) (d (r .body)) n) (rule-means g (r .line) (r .rule) (peg (r .body)) (d (r .body)) (body (r .body) (v .plain l c) (v .calls l c) (v .no-sequel l c) (w .literals l) (w .steady l))) m x)
+        nonterminal-means g l _ (counted (peg (r .body)) (λ n. Pest.rule g true (r .line) (r .rule) (d (r .body)) n) (rule-means g (r .line) (r .rule) (peg (r .body)) (d (r .body)) (body (r .body) (v .plain l c) (v .calls l c) (v .whole-body l c) (w .literals l) (w .steady l))) m x)
 
   refused-means : (e : Exp) → Plain e → Calls lines e → Literals e → Steady set e → RecognisesTree e (Pest.no-deeper g true e)
   refused-means e p c u y m x = means-err _ (λ q. cause-set (some LimitKind.Stack) refl q)
