@@ -35,5 +35,4 @@ pub mod IndexLaws
 pub mod PopMatch
 pub mod StateSteps
 pub mod RuleLaws
-pub mod Trees
 pub mod Accepted
