@@ -36,3 +36,4 @@ pub mod PopMatch
 pub mod StateSteps
 pub mod RuleLaws
 pub mod Accepted
+pub mod StackKept

@@ -1,18 +1,18 @@
 -- pest's `match_string` is matching's: a string that fits is the same bytes at once or one after another.
-use mathlib.Core.Path.{_≡_, refl, sym, ap, ap₂, _∙_}
-use mathlib.Core.Bool.{Bool, true, false, _&&_, cond, and-false}
+use mathlib.Core.Path.{_≡_, refl, ap}
+use mathlib.Core.Bool.{Bool, true, false, _&&_, cond}
 use mathlib.Core.List.{List, [], _∷_}
-use mathlib.Core.Option.{Option, none, some}
-use Prim.Native.Nat.{ℕ, zero, suc, _+_, _-_, _≤_, _<_}
+use mathlib.Core.Option.{none, some}
+use Prim.Native.Nat.{ℕ, _+_, _-_, _≤_}
 use native.Mathlib.Omega.{arith}
 use native.Mathlib.Decide.{decLe}
 use lib.ListN.{length, take, drop, length-drop}
-use lib.Dec.{eqb, leb}
+use lib.Dec.{eqb}
 use borrow.Author.Tests.{le-leb, lt-leb}
 use Rattle.matching.specs.Position.{starts-by, match-by, match-string}
 use Rattle.matching.proofs.Starts.{starts-short}
-use Rattle.engine.specs.Ending.{if_then_else_}
 use Rattle.engine.specs.Pest as Pest
+use Rattle.engine.specs.Ending.{if_then_else_}
 
 same-starts : (same : ℕ → ℕ → Bool) (l x : List ℕ) → length l ≤ length x → Pest.same-bytes same l (take (length l) x) ≡ starts-by same l x
 same-starts same [] x h = refl

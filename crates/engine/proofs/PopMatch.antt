@@ -1,25 +1,25 @@
 -- Popping and matching, one entry at a time: what the pop answered decides pest's next step, and the answer from there on is the whole
 -- answer.
 use mathlib.Core.Path.{_≡_, refl, sym, ap, ap₂, _∙_, subst}
-use mathlib.Core.Bool.{Bool, true, false, _&&_}
+use mathlib.Core.Bool.{Bool, true, false}
 use mathlib.Core.List.{List, [], _∷_}
 use mathlib.Core.Option.{Option, none, some}
-use Prim.Native.Nat.{ℕ, zero, suc, _+_, _-_, _≤_, _<_}
+use Prim.Native.Nat.{ℕ, suc, _+_, _-_, _≤_, _<_}
 use native.Mathlib.Omega.{arith}
 use lib.ListN.{length, getD, drop, length-drop}
 use lib.Seq.{getD-drop}
 use lib.Dec.{eqb, ltb}
 use borrow.Author.Tests.{ltb-false, le-ltb, eq-eqb, ne-eqb, le-leb, lt-leb}
-use Rattle.matching.specs.Position.{starts-by, match-by, match-string, bytes-of}
 use Rattle.matching.specs.declared.span.Span as Code
+use Rattle.matching.specs.Position.{starts-by, match-by, match-string, bytes-of}
 use Rattle.matching.proofs.Starts.{starts-short, From, from-start, from-more, from-fails, from-end}
+use Rattle.engine.specs.Pest as Pest
 use Rattle.engine.specs.declared.stack.Stack.{Stack}
 use Rattle.engine.specs.declared.stack.Popped.{Popped}
 use Rattle.engine.specs.declared.stack.Popped.the-variants.{Got, Empty, Full}
 use Rattle.engine.specs.declared.parser_state.Cause.the-variants.{StackFull}
 use Rattle.engine.specs.Ending.{if_then_else_, Ending, Ok, Err, Stop, stop-if, Span, Checkpoint}
 use Rattle.engine.specs.Reading.{debt}
-use Rattle.engine.specs.Pest as Pest
 use Rattle.engine.specs.Pest.{ParserState, set-position, set-stack, pop, as-str, stack-match-pop}
 use Rattle.engine.specs.Areas.{pairs, span, checkpoint, stack-of}
 use Rattle.engine.specs.Bounded.{Take, got, taken, taken-from, take-of}
@@ -35,7 +35,7 @@ pub record Took (v w : Pest.Stack) (x : Span) : Type 0 where
   pub is : w ≡ pop x (w .cache) v
   pub owing : debt (w .lengths) ≤ 1024
 
-pop-cache : (x : Span) (rest : List Span) (v : Pest.Stack) → pop x rest v .cache ≡ rest
+pub pop-cache : (x : Span) (rest : List Span) (v : Pest.Stack) → pop x rest v .cache ≡ rest
 pop-cache x rest v = go (v .lengths)
   where
     pick : (b : Bool) (k : Checkpoint) (ks : List Checkpoint)

@@ -8,16 +8,16 @@ use native.Mathlib.Omega.{arith}
 use native.Mathlib.Decide.{decLt}
 use lib.ListN.{length, getD, take, drop, length-drop, length-reverse, List·getD-append}
 use lib.Seq.{take-suc, drop-cons, getD-drop, getD-at}
+use Rattle.matching.specs.declared.span.Span as Code
 use Rattle.matching.specs.Contracts.{matched}
 use Rattle.matching.specs.Position.{match-string, bytes-of}
-use Rattle.matching.specs.declared.span.Span as Code
 use Rattle.matching.specs.declared.position.BytePosition.{BytePosition}
 use Rattle.matching.specs.declared.position.Matched.{Matched}
 use Rattle.matching.specs.declared.position.Matched.the-variants.{At, Failed}
+use Rattle.engine.specs.Pest as Pest
 use Rattle.engine.specs.declared.areas.Pair.{Pair}
 use Rattle.engine.specs.declared.stack_match.Next.{Next}
-use Rattle.engine.specs.Ending.{if_then_else_, Span}
-use Rattle.engine.specs.Pest as Pest
+use Rattle.engine.specs.Ending.{Span}
 use Rattle.engine.specs.Pest.{slice, all-match, as-str}
 use Rattle.engine.specs.Areas.{pairs, span}
 use Rattle.engine.specs.Pairs.{pair}

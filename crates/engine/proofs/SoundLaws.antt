@@ -1,20 +1,20 @@
 -- What holds of every stack of a run is kept by each of pest's operations, so that each call finds what it asks; and what the stack's
 -- functions and the attempts' leave to one another.
-use mathlib.Core.Path.{_≡_, refl, sym, ap, ap₂, _∙_, subst}
+use mathlib.Core.Path.{_≡_, refl, sym, ap, _∙_}
 use mathlib.Core.Bool.{Bool, true, false}
 use mathlib.Core.List.{List, [], _∷_, _++_, reverse}
-use Prim.Native.Nat.{ℕ, zero, suc, _+_, _*_, _-_, _≤_, _<_, min}
+use Prim.Native.Nat.{ℕ, suc, _+_, _*_, _-_, _≤_, _<_, min}
 use native.Mathlib.Omega.{arith}
 use native.Mathlib.Decide.{decLt}
-use lib.ListN.{length, take, drop, length-append, length-take, length-drop, length-reverse}
-use lib.Dec.{eqb, ltb, leb}
-use borrow.Author.Tests.{eqb-true, eqb-false, ltb-false, lt-ltb, le-ltb, leb-false}
+use lib.ListN.{length, take, length-append, length-take, length-drop, length-reverse}
+use lib.Dec.{eqb, ltb}
+use borrow.Author.Tests.{eqb-true, eqb-false, lt-ltb, le-ltb}
+use Rattle.engine.specs.Pest as Pest
 use Rattle.engine.specs.declared.stack.Stack.{Stack}
 use Rattle.engine.specs.Ending.{if_then_else_, Span, Checkpoint}
 use Rattle.engine.specs.Reading.{debt}
-use Rattle.engine.specs.Pest as Pest
 use Rattle.engine.specs.Pest.{push, pop, snapshot, clear-snapshot, restore, truncate}
-use Rattle.engine.specs.Areas.{pairs, numbers, span, checkpoint, stack-of, Outside}
+use Rattle.engine.specs.Areas.{numbers, span, checkpoint, stack-of, Outside}
 use Rattle.engine.specs.Sound.{Fits, fits-none, fits-one, Sound, StackReady, OutsideStack}
 use Rattle.engine.proofs.StackLaws.{pest}
 use Rattle.engine.proofs.Regions.{pairs-length, pairs-same, numbers-same, same-below, same-above}

@@ -1,20 +1,19 @@
 -- What each function of the stack does, over the numbers of scratch: a region is a list of pairs, the last one first, so that to write
 -- after the last pair is `∷`, and the other regions lie outside of what is written.
 use mathlib.Core.Path.{_≡_, refl, sym, ap, ap₂, _∙_}
-use mathlib.Core.Bool.{Bool, true, false}
 use mathlib.Core.List.{List, [], _∷_, _++_, reverse}
-use Prim.Native.Nat.{ℕ, zero, suc, _+_, _*_, _-_, _≤_, _<_, min}
+use Prim.Native.Nat.{ℕ, suc, _+_, _*_, _-_, _≤_, _<_, min}
 use native.Mathlib.Omega.{arith}
 use native.Mathlib.Decide.{decLt}
-use lib.ListN.{length, getD, take, drop}
-use lib.Dec.{eqb, ltb, leb}
+use lib.ListN.{length, take, drop}
+use lib.Dec.{ltb}
 use borrow.Author.Tests.{eq-eqb, ne-eqb, lt-ltb, le-ltb, le-leb, lt-leb}
 use Rattle.matching.specs.declared.span.Span as Code
+use Rattle.engine.specs.Pest as Pest
 use Rattle.engine.specs.declared.areas.Pair.{Pair}
 use Rattle.engine.specs.declared.stack.Stack.{Stack}
 use Rattle.engine.specs.Ending.{if_then_else_, Span, Checkpoint}
 use Rattle.engine.specs.Reading.{debt}
-use Rattle.engine.specs.Pest as Pest
 use Rattle.engine.specs.Pest.{snapshot, clear-snapshot, restore, truncate}
 use Rattle.engine.specs.Areas.{pairs, span, checkpoint, stack-of, Outside}
 use Rattle.engine.specs.Pairs.{pair, put, drained, refilled}

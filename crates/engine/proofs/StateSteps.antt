@@ -4,38 +4,37 @@ use mathlib.Core.Path.{_≡_, refl, sym, ap, ap₂, _∙_}
 use mathlib.Core.Bool.{Bool, true, false, cond, _||_}
 use mathlib.Core.List.{List, [], _∷_}
 use mathlib.Core.Option.{Option, none, some}
-use Prim.Native.Nat.{ℕ, suc, _+_, _-_, _≤_, _<_}
+use Prim.Native.Nat.{ℕ, suc, _-_, _≤_, _<_}
 use native.Mathlib.Omega.{arith}
 use lib.IntN.{ℤ, pos, negsuc}
 use lib.ListN.{length}
 use lib.Dec.{ltb, leb, eqb}
-use lib.Signed.{ltZ, nonNeg}
-use borrow.Author.Tests.{le-leb, lt-leb, ltb-true, ltb-false, le-ltb}
+use borrow.Author.Tests.{le-leb, lt-leb, ltb-false, le-ltb}
+use Rattle.matching.specs.declared.position.Matched.the-variants as Matched
+use Rattle.matching.specs.declared.span.Span as Code
 use Rattle.matching.specs.Contracts.{matched}
 use Rattle.matching.specs.Position.{match-string, bytes-of}
 use Rattle.matching.specs.declared.position.BytePosition.{BytePosition}
 use Rattle.matching.specs.declared.position.Matched.{Matched}
-use Rattle.matching.specs.declared.position.Matched.the-variants as Matched
-use Rattle.matching.specs.declared.span.Span as Code
+use Rattle.engine.specs.declared.stack.Pushed.the-variants as Pushed
+use Rattle.engine.specs.declared.stack.Popped.the-variants as Popped
+use Rattle.engine.specs.declared.stack_match.Index.the-variants as Index
+use Rattle.engine.specs.declared.stack_match.MatchPopped.the-variants as MatchPopped
+use Rattle.engine.specs.declared.parser_state.Ending as Code·ending
+use Rattle.engine.specs.Pest as Pest
 use Rattle.engine.specs.declared.stack.Stack.{Stack}
 use Rattle.engine.specs.declared.stack.Pushed.{Pushed}
-use Rattle.engine.specs.declared.stack.Pushed.the-variants as Pushed
 use Rattle.engine.specs.declared.stack.Popped.{Popped}
-use Rattle.engine.specs.declared.stack.Popped.the-variants as Popped
 use Rattle.engine.specs.declared.stack_match.Index.{Index}
-use Rattle.engine.specs.declared.stack_match.Index.the-variants as Index
 use Rattle.engine.specs.declared.stack_match.MatchPopped.{MatchPopped}
-use Rattle.engine.specs.declared.stack_match.MatchPopped.the-variants as MatchPopped
 use Rattle.engine.specs.declared.parser_state.ParserState.{ParserState}
-use Rattle.engine.specs.declared.parser_state.Ending as Code·ending
 use Rattle.engine.specs.declared.parser_state.Cause.the-variants.{EmptyStack, StackFull}
 use Rattle.engine.specs.Ending.{if_then_else_, Ending, Ok, Err, Stop, stop-if, Span}
 use Rattle.engine.specs.Reading.{debt}
-use Rattle.engine.specs.Pest as Pest
-use Rattle.engine.specs.Pest.{set-position, set-stack, push, pop, as-str, moved, push-end, stack-pop, stack-match-pop, stack-match-peek-slice, normalize-index, normalize-end, slice, all-match}
-use Rattle.engine.specs.Areas.{pairs, numbers, span, checkpoint, stack-of, view, view-end}
+use Rattle.engine.specs.Pest.{set-position, set-stack, push, pop, as-str, moved, stack-pop, stack-match-pop, stack-match-peek-slice, normalize-index, normalize-end, slice, all-match}
+use Rattle.engine.specs.Areas.{span, checkpoint, stack-of, view, view-end}
 use Rattle.engine.specs.Bounded.{Push, kept, Take, got, pushed, taken, taken-from, push-of, take-of}
-use Rattle.engine.specs.Sound.{Sound, StackReady, StateReady, OutsideStack}
+use Rattle.engine.specs.Sound.{Sound, StateReady, OutsideStack}
 use Rattle.engine.specs.StackMatch.{match-of, index-of, match-end}
 use Rattle.engine.proofs.Regions.{pairs-length, numbers-length}
 use Rattle.engine.proofs.SoundLaws.{positives-kept, negatives-kept, ready-of}

@@ -1,7 +1,8 @@
-use Rattle.engine.proofs.Moves.{copied-by}
+-- The pair that was read is the pair that is written.
 use borrow.Author.Needs.{needs}
-use Rattle.engine.proofs.areas.copy_pair.Statement.{statement}
 use Rattle.engine.proofs.areas.copy_pair.Tie as tie
+use Rattle.engine.proofs.Moves.{copied-by}
+use Rattle.engine.proofs.areas.copy_pair.Statement.{statement}
 
 pair-at-requires : tie.Need-pair-at-requires
 pair-at-requires c κs = search needs

@@ -1,10 +1,11 @@
+-- Two writes, one after the other: `put`.
 use mathlib.Core.Path.{refl}
 use native.Mathlib.Omega.{arith}
 use lib.ListN.{length-set}
-use Rattle.engine.specs.Pairs.{put}
 use borrow.Author.Needs.{needs}
-use Rattle.engine.proofs.areas.put_pair.Statement.{statement}
+use Rattle.engine.specs.Pairs.{put}
 use Rattle.engine.proofs.areas.put_pair.Tie as tie
+use Rattle.engine.proofs.areas.put_pair.Statement.{statement}
 
 mul-at : tie.Need-mul-at
 mul-at c = search needs

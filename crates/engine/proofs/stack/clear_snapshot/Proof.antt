@@ -1,8 +1,9 @@
-use Rattle.engine.proofs.StackSteps.{top-is, outer-top, clear-none, clear-one, clear-all, clear-some}
+-- What Sound says of the two innermost checkpoints (`top-is`, `outer-top`) bounds every difference; one law for each way out.
 use native.Mathlib.Omega.{arith}
 use borrow.Author.Needs.{needs}
-use Rattle.engine.proofs.stack.clear_snapshot.Statement.{statement}
 use Rattle.engine.proofs.stack.clear_snapshot.Tie as tie
+use Rattle.engine.proofs.StackSteps.{top-is, outer-top, clear-none, clear-one, clear-all, clear-some}
+use Rattle.engine.proofs.stack.clear_snapshot.Statement.{statement}
 
 returns : tie.Need-returns
 returns c = let i = c .before .before in clear-none (i .args .scratch .now) (i .args .s) (i .pre) (c .if1 .taken)

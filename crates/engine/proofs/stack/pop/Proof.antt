@@ -1,7 +1,8 @@
-use Rattle.engine.proofs.StackSteps.{pop-empty, pop-free, pop-above, pop-at, pop-full}
+-- One law of StackSteps for each way out: nothing there, no checkpoint, above the lowest height, at it with room for the debt, at it without.
 use borrow.Author.Needs.{needs}
-use Rattle.engine.proofs.stack.pop.Statement.{statement}
 use Rattle.engine.proofs.stack.pop.Tie as tie
+use Rattle.engine.proofs.StackSteps.{pop-empty, pop-free, pop-above, pop-at, pop-full}
+use Rattle.engine.proofs.stack.pop.Statement.{statement}
 
 returns : tie.Need-returns
 returns c = let i = c .before .before in pop-empty (i .args .scratch .now) (i .args .s) (i .pre) (c .if1 .taken)

@@ -1,7 +1,8 @@
-use Rattle.engine.proofs.StackSteps.{push-ok, push-full}
+-- An entry is written after the last one, or there is no room: one law of StackSteps for each.
 use borrow.Author.Needs.{needs}
-use Rattle.engine.proofs.stack.push.Statement.{statement}
 use Rattle.engine.proofs.stack.push.Tie as tie
+use Rattle.engine.proofs.StackSteps.{push-ok, push-full}
+use Rattle.engine.proofs.stack.push.Statement.{statement}
 
 put-pair-requires : tie.Need-put-pair-requires
 put-pair-requires c κs = search needs

@@ -1,12 +1,13 @@
-use Rattle.engine.proofs.Moves.{refilled-zero, refilled-next}
-use Rattle.engine.specs.Pairs.{refilled}
-use lib.ListN.{length}
-use native.Mathlib.Omega.{arith}
-use Prim.Native.Nat.{_-_, _≤_}
+-- The invariant: scratch is what the definition gives after i moves.
 use mathlib.Core.Path.{_≡_, refl, ap, _∙_}
+use Prim.Native.Nat.{_-_, _≤_}
+use native.Mathlib.Omega.{arith}
+use lib.ListN.{length}
 use borrow.Author.Needs.{needs}
-use Rattle.engine.proofs.stack.refill.Statement.{statement}
+use Rattle.engine.specs.Pairs.{refilled}
 use Rattle.engine.proofs.stack.refill.Tie as tie
+use Rattle.engine.proofs.Moves.{refilled-zero, refilled-next}
+use Rattle.engine.proofs.stack.refill.Statement.{statement}
 
 abbrev Inv-loop : tie.InvT-loop
 Inv-loop scratch₀ low p n i₀ scratch i = (i ≤ n) × (length scratch ≡ length scratch₀) × (scratch ≡ refilled scratch₀ low p i)

@@ -1,8 +1,9 @@
-use Rattle.engine.proofs.StackSteps.{top-is, restore-none, restore-ok}
+-- What Sound says of the innermost checkpoint (`top-is`) bounds every difference; one law for each way out.
 use native.Mathlib.Omega.{arith}
 use borrow.Author.Needs.{needs}
-use Rattle.engine.proofs.stack.restore.Statement.{statement}
 use Rattle.engine.proofs.stack.restore.Tie as tie
+use Rattle.engine.proofs.StackSteps.{top-is, restore-none, restore-ok}
+use Rattle.engine.proofs.stack.restore.Statement.{statement}
 
 returns : tie.Need-returns
 returns c = let i = c .before .before in restore-none (i .args .scratch .now) (i .args .s) (i .pre) (c .if1 .taken)

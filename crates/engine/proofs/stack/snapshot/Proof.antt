@@ -1,7 +1,8 @@
-use Rattle.engine.proofs.StackSteps.{snapshot-ok}
+-- A checkpoint is written after the last one.
 use borrow.Author.Needs.{needs}
-use Rattle.engine.proofs.stack.snapshot.Statement.{statement}
 use Rattle.engine.proofs.stack.snapshot.Tie as tie
+use Rattle.engine.proofs.StackSteps.{snapshot-ok}
+use Rattle.engine.proofs.stack.snapshot.Statement.{statement}
 
 cast-put-pair : tie.Need-cast-put-pair
 cast-put-pair c = search needs

@@ -1,7 +1,8 @@
-use Rattle.engine.proofs.Slices.{entry-bytes}
+-- The two numbers of the entry are its span, and matching's `as_bytes` gives its bytes.
 use borrow.Author.Needs.{needs}
-use Rattle.engine.proofs.stack_match.entry.Statement.{statement}
 use Rattle.engine.proofs.stack_match.entry.Tie as tie
+use Rattle.engine.proofs.Slices.{entry-bytes}
+use Rattle.engine.proofs.stack_match.entry.Statement.{statement}
 
 pair-at-requires : tie.Need-pair-at-requires
 pair-at-requires c κs = search needs

@@ -1,6 +1,7 @@
+-- The two tests of field c.
+use Rattle.engine.proofs.stack_match.is_top_down.Tie as tie
 use Rattle.engine.proofs.IndexLaws.{down-one, down-three}
 use Rattle.engine.proofs.stack_match.is_top_down.Statement.{statement}
-use Rattle.engine.proofs.stack_match.is_top_down.Tie as tie
 
 returns : tie.Need-returns
 returns c = down-one _ (c .if1 .taken)

@@ -1,23 +1,24 @@
-use Rattle.engine.proofs.Regions.{stack-trans}
+-- The invariants: `Going`, the answer from here on is the whole answer; and of the bytes of one entry, that those below i were the same. The four ways out of the loop meet in `met`.
+use mathlib.Core.List.{[], _∷_}
+use mathlib.Core.Path.{_≡_}
+use mathlib.Core.Logic.{⊎-elim}
+use Prim.Native.Nat.{ℕ, _-_}
+use native.Mathlib.Omega.{arith}
+use lib.Dec.{eqb}
+use lib.ListN.{drop}
+use types.Run.{OneOf}
+use denote.Enum.Declared as Enum
 use borrow.Author.Needs.{needs}
-use Rattle.engine.proofs.PopMatch.{bytes-past, bytes-short, bytes-start, bytes-more, bytes-differ, bytes-all, bytes-inside, Going, going-start, going-full, going-height, going-more, Met, met-empty, met-failed, met-good, met-bad}
-use Rattle.engine.proofs.stack.Popped as Code
+use Rattle.matching.proofs.Starts.{From}
+use Rattle.matching.specs.declared.span.Span.{Span}
 use Rattle.engine.specs.declared.stack.Popped.the-variants.{Got, Empty, Full}
 use Rattle.engine.specs.declared.stack.Popped.{Popped}
 use Rattle.engine.specs.declared.stack.Stack.{Stack}
-use Rattle.matching.proofs.Starts.{From}
-use Rattle.matching.specs.declared.span.Span.{Span}
-use denote.Enum.Declared as Enum
-use types.Run.{OneOf}
-use lib.Dec.{eqb}
-use lib.ListN.{length, drop}
-use native.Mathlib.Omega.{arith}
-use Prim.Native.Nat.{ℕ, _-_, _≤_}
-use mathlib.Core.List.{List, [], _∷_}
-use mathlib.Core.Path.{_≡_}
-use mathlib.Core.Logic.{⊎-elim}
-use Rattle.engine.proofs.stack_match.match_pop.Statement.{statement}
+use Rattle.engine.proofs.stack.Popped as Code
 use Rattle.engine.proofs.stack_match.match_pop.Tie as tie
+use Rattle.engine.proofs.Regions.{stack-trans}
+use Rattle.engine.proofs.PopMatch.{bytes-past, bytes-short, bytes-start, bytes-more, bytes-differ, bytes-all, bytes-inside, Going, going-start, going-full, going-height, going-more, Met, met-empty, met-failed, met-good, met-bad}
+use Rattle.engine.proofs.stack_match.match_pop.Statement.{statement}
 
 abbrev Inv-loop : tie.InvT-loop
 Inv-loop text scratch t at h bytes n i₀ i = From eqb bytes (drop at text) i

@@ -1,9 +1,10 @@
-use Rattle.engine.proofs.Slices.{next-inside, Left, left-start, left-more, left-fails, left-done}
-use native.Mathlib.Omega.{arith}
+-- The invariant `Left`: what is left of the slice, from here on, decides the whole answer.
 use Prim.Native.Nat.{_-_}
+use native.Mathlib.Omega.{arith}
 use borrow.Author.Needs.{needs}
-use Rattle.engine.proofs.stack_match.match_slice.Statement.{statement}
 use Rattle.engine.proofs.stack_match.match_slice.Tie as tie
+use Rattle.engine.proofs.Slices.{next-inside, Left, left-start, left-more, left-fails, left-done}
+use Rattle.engine.proofs.stack_match.match_slice.Statement.{statement}
 
 abbrev Inv-loop : tie.InvT-loop
 Inv-loop text scratch start end down at₀ low₀ high₀ at low high = Left text scratch down start end at₀ low high at

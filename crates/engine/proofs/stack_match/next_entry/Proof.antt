@@ -1,7 +1,8 @@
-use Rattle.engine.proofs.Slices.{next-down, next-up}
+-- One equation for each direction.
 use borrow.Author.Needs.{needs}
-use Rattle.engine.proofs.stack_match.next_entry.Statement.{statement}
 use Rattle.engine.proofs.stack_match.next_entry.Tie as tie
+use Rattle.engine.proofs.Slices.{next-down, next-up}
+use Rattle.engine.proofs.stack_match.next_entry.Statement.{statement}
 
 sub-t6 : tie.Need-sub-t6
 sub-t6 c = search needs

@@ -1,11 +1,12 @@
-use Rattle.engine.proofs.IndexLaws.{back, end-given, end-none}
+-- An end that is given is normalised; without one the end is the height.
+use mathlib.Core.Path.{ap, _∙_}
+use lib.IntN.{ℤ}
+use borrow.Author.Needs.{needs}
 use Rattle.engine.specs.StackMatch.{index-of}
 use Rattle.engine.specs.Pest.{normalize-index}
-use lib.IntN.{ℤ}
-use mathlib.Core.Path.{ap, _∙_}
-use borrow.Author.Needs.{needs}
-use Rattle.engine.proofs.stack_match.normalize_end.Statement.{statement}
 use Rattle.engine.proofs.stack_match.normalize_end.Tie as tie
+use Rattle.engine.proofs.IndexLaws.{back, end-given, end-none}
+use Rattle.engine.proofs.stack_match.normalize_end.Statement.{statement}
 
 normalize-index-requires : tie.Need-normalize-index-requires
 normalize-index-requires c κs = search needs

@@ -1,6 +1,7 @@
+-- By the sign: the size of a negative number goes through 64 bits.
+use Rattle.engine.proofs.stack_match.normalize_index.Tie as tie
 use Rattle.engine.proofs.IndexLaws.{minus-of, plus-of, wide-fits, negated-fits, cast-negated, cast-plus, minus-outside, minus-at, plus-outside, plus-at}
 use Rattle.engine.proofs.stack_match.normalize_index.Statement.{statement}
-use Rattle.engine.proofs.stack_match.normalize_index.Tie as tie
 
 cast-size : tie.Need-cast-size
 cast-size c = wide-fits _ (c .before .fits .i)

@@ -1,7 +1,8 @@
-use Rattle.engine.proofs.StateSteps.{stack-changed}
+-- Only the stack of the state changed.
 use borrow.Author.Needs.{needs}
-use Rattle.engine.proofs.stack_state.checkpoint.Statement.{statement}
 use Rattle.engine.proofs.stack_state.checkpoint.Tie as tie
+use Rattle.engine.proofs.StateSteps.{stack-changed}
+use Rattle.engine.proofs.stack_state.checkpoint.Statement.{statement}
 
 snapshot-requires : tie.Need-snapshot-requires
 snapshot-requires c κs = search needs

@@ -1,7 +1,8 @@
-use Rattle.engine.proofs.StateSteps.{moved-at, moved-not}
+-- One equation for each answer of the matcher.
 use borrow.Author.Needs.{needs}
-use Rattle.engine.proofs.stack_state.moved.Statement.{statement}
 use Rattle.engine.proofs.stack_state.moved.Tie as tie
+use Rattle.engine.proofs.StateSteps.{moved-at, moved-not}
+use Rattle.engine.proofs.stack_state.moved.Statement.{statement}
 
 enum-known-m : tie.Need-enum-known-m
 enum-known-m c = search needs

@@ -1,7 +1,8 @@
-use Rattle.engine.proofs.StateSteps.{stack-changed}
+-- Only the stack of the state changed.
 use borrow.Author.Needs.{needs}
-use Rattle.engine.proofs.stack_state.restored.Statement.{statement}
 use Rattle.engine.proofs.stack_state.restored.Tie as tie
+use Rattle.engine.proofs.StateSteps.{stack-changed}
+use Rattle.engine.proofs.stack_state.restored.Statement.{statement}
 
 restore-requires : tie.Need-restore-requires
 restore-requires c κs = search needs

@@ -1,12 +1,13 @@
-use Rattle.engine.proofs.StateSteps.{end-of, start-out, end-out, end-below, slice-empty, slice-moved}
-use Rattle.engine.proofs.IndexLaws.{back}
+-- Either index outside, an empty slice, or the slice matched: one law of StateSteps for each.
+use mathlib.Core.Path.{ap, _∙_}
+use lib.IntN.{ℤ}
+use borrow.Author.Needs.{needs}
 use Rattle.engine.specs.StackMatch.{index-of}
 use Rattle.engine.specs.Pest.{normalize-index, normalize-end}
-use lib.IntN.{ℤ}
-use mathlib.Core.Path.{ap, _∙_}
-use borrow.Author.Needs.{needs}
-use Rattle.engine.proofs.stack_state.stack_match_peek_slice.Statement.{statement}
 use Rattle.engine.proofs.stack_state.stack_match_peek_slice.Tie as tie
+use Rattle.engine.proofs.StateSteps.{end-of, start-out, end-out, end-below, slice-empty, slice-moved}
+use Rattle.engine.proofs.IndexLaws.{back}
+use Rattle.engine.proofs.stack_state.stack_match_peek_slice.Statement.{statement}
 
 normalize-index-requires : tie.Need-normalize-index-requires
 normalize-index-requires c κs = search needs

@@ -1,7 +1,8 @@
-use Rattle.engine.proofs.StateSteps.{popped-all, popped-some, popped-indebted}
+-- One law of StateSteps for each answer of `match_pop`.
 use borrow.Author.Needs.{needs}
-use Rattle.engine.proofs.stack_state.stack_match_pop.Statement.{statement}
 use Rattle.engine.proofs.stack_state.stack_match_pop.Tie as tie
+use Rattle.engine.proofs.StateSteps.{popped-all, popped-some, popped-indebted}
+use Rattle.engine.proofs.stack_state.stack_match_pop.Statement.{statement}
 
 match-pop-requires : tie.Need-match-pop-requires
 match-pop-requires c κs = search needs

@@ -1,7 +1,8 @@
-use Rattle.engine.proofs.StateSteps.{pop-moved, pop-stopped, pop-indebted}
+-- One law of StateSteps for each answer of `pop`.
 use borrow.Author.Needs.{needs}
-use Rattle.engine.proofs.stack_state.stack_pop.Statement.{statement}
 use Rattle.engine.proofs.stack_state.stack_pop.Tie as tie
+use Rattle.engine.proofs.StateSteps.{pop-moved, pop-stopped, pop-indebted}
+use Rattle.engine.proofs.stack_state.stack_pop.Statement.{statement}
 
 pop-requires : tie.Need-pop-requires
 pop-requires c κs = search needs

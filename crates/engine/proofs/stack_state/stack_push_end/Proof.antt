@@ -1,7 +1,8 @@
-use Rattle.engine.proofs.StateSteps.{push-kept, push-stopped}
+-- One law of StateSteps for each answer of `push`.
 use borrow.Author.Needs.{needs}
-use Rattle.engine.proofs.stack_state.stack_push_end.Statement.{statement}
 use Rattle.engine.proofs.stack_state.stack_push_end.Tie as tie
+use Rattle.engine.proofs.StateSteps.{push-kept, push-stopped}
+use Rattle.engine.proofs.stack_state.stack_push_end.Statement.{statement}
 
 cast-push : tie.Need-cast-push
 cast-push c = search needs
