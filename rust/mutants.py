@@ -3,7 +3,7 @@
 
 Each mutant changes one place of the oracle in a copy of this folder, builds it there, and lets
 `compare` (against pest) and `answers --check` (against the fixed list) judge it. Slow; run it by
-hand: nice python3 mutants.py [folder for the copy]
+hand: nice python3 mutants.py [folder for the copy [words of the names wanted]]
 """
 import os
 import pathlib
@@ -14,6 +14,7 @@ import sys
 
 HERE = pathlib.Path(__file__).resolve().parent
 COPY = pathlib.Path(sys.argv[1] if len(sys.argv) > 1 else "/tmp/mutants")
+WORDS = sys.argv[2:]
 READING, LIB, FOREST = "oracle/src/reading.rs", "oracle/src/lib.rs", "oracle/src/forest.rs"
 TABLE, STILL = "oracle/src/table.rs", "oracle/src/still.rs"
 
@@ -39,7 +40,7 @@ MUTANTS = [
     ("lookahead ignores a limit cause", READING, "Ok(self.cause.is_none() && ok == positive)", "Ok(ok == positive)"),
     ("c for c + 1 in tracking", READING, "noted.0 + noted.1 + 1", "noted.0 + noted.1"),
     ("lists not cut when p is furthest", READING, "            self.positives.truncate(noted.0);\n            self.negatives.truncate(noted.1);", "            let _ = noted;"),
-    ("lengths noted at another position", READING, "        if self.furthest == p {\n            (self", "        if self.furthest >= p {\n            (self"),
+    ("lengths of an older position noted", READING, "        if self.furthest == p {\n            (self", "        if self.furthest <= p {\n            (self"),
     ("tracked in Atomic too", READING, "if ok != negative || self.atomicity == Atomicity::Atomic", "if ok != negative"),
     ("CompoundAtomic records nothing", READING, "self.atomicity != Atomicity::Atomic;", "self.atomicity == Atomicity::NonAtomic;"),
     ("tag under a lookahead", READING, "        if self.lookahead == Lookahead::None {\n            if let Some(last)", "        {\n            if let Some(last)"),
@@ -88,7 +89,8 @@ def refused(command):
 def main():
     shutil.copytree(HERE, COPY, dirs_exist_ok=True, ignore=shutil.ignore_patterns("answers-out", ".git"))
     survivors = 0
-    for name, file, old, new in MUTANTS:
+    wanted = [mutant for mutant in MUTANTS if not WORDS or any(word in mutant[0] for word in WORDS)]
+    for name, file, old, new in wanted:
         text = (COPY / file).read_text()
         assert text.count(old) == 1, (name, text.count(old))
         (COPY / file).write_text(text.replace(old, new))
@@ -97,7 +99,7 @@ def main():
         survivors += not (by_pest or by_list)
         print(f"{name} | {by_pest or '-'} | {by_list or '-'}", flush=True)
         (COPY / file).write_text(text)
-    print(f"{len(MUTANTS)} mutants, {survivors} survived")
+    print(f"{len(wanted)} mutants, {survivors} survived")
 
 
 if __name__ == "__main__":

@@ -133,6 +133,15 @@ fn capacities() -> Vec<(Case, u32)> {
         (Case::new(&pushes_and_one, "", ""), 15),
         (debt(8), 0),
         (debt(9), 15),
+        (debt_taken_over(8, 9), 0),
+        (debt_taken_over(9, 9), 15),
+        (debt_taken_over(8, 18), 0),
+        (debt_taken_over(9, 18), 15),
+        (debt_restored(10, 9), 0),
+        (debt_restored(10, 12), 0),
+        (debt_restored(10, 18), 0),
+        (debt_and_one(7), 0),
+        (debt_and_one(8), 15),
     ]
 }
 
@@ -146,19 +155,82 @@ fn doubled(start: &[[i32; 4]], kind: i32, times: usize) -> Vec<[i32; 4]> {
     nodes
 }
 
+// Debts. Each sheet begins with a line 9 that pushes 128 entries, a line 10 that pops all there
+// are, a line 11 that matches a letter and a line 12 that matches none.
+
+fn owing(letters: usize, rest: &[[i32; 4]]) -> Case {
+    let mut nodes = doubled(&[[4, 0, 0, 0], [14, 1, 0, 0]], 6, 7);
+    nodes.extend([[17, 0, 0, 0], [1, 0, 1, 0], [1, 1, 1, 0]]);
+    nodes.extend(rest);
+    Case::new(&nodes, "ab", &"a".repeat(letters))
+}
+
 /// `letters` checkpoints inside one another, each owing 128 entries.
 pub fn debt(letters: usize) -> Case {
-    let mut nodes = doubled(&[[4, 0, 0, 0], [14, 1, 0, 0]], 6, 7); // line 9: 128 pushes
-    nodes.extend([
-        [17, 0, 0, 0],  // 10: pops them all
-        [1, 0, 1, 0],   // 11: a letter
-        [20, 18, 0, 0], // 12: once more
-        [11, 12, 0, 0], // 13
-        [6, 10, 13, 0], // 14
-        [9, 14, 0, 0],  // 15: inside a checkpoint
-        [6, 9, 15, 0],  // 16
-        [6, 11, 16, 0], // 17
-        [8, 7, 17, 0],  // 18
-    ]);
-    Case::new(&nodes, "a", &"a".repeat(letters))
+    owing(
+        letters,
+        &[
+            [20, 19, 0, 0], // 13: the rule once more
+            [11, 13, 0, 0],
+            [6, 10, 14, 0],
+            [9, 15, 0, 0], // 16: the checkpoint
+            [6, 9, 16, 0],
+            [6, 11, 17, 0],
+            [8, 7, 18, 0], // 19: a letter, 128 pushes, 16
+        ],
+    )
+}
+
+/// The same, but popped inside an inner checkpoint, which is dropped: the outer one owes it.
+pub fn debt_taken_over(letters: usize, kind: i32) -> Case {
+    owing(
+        letters,
+        &[
+            [kind, 10, 0, 0], // 13: the inner checkpoint
+            [20, 20, 0, 0],   // 14: the rule once more
+            [11, 14, 0, 0],
+            [6, 13, 15, 0],
+            [9, 16, 0, 0], // 17: the outer checkpoint
+            [6, 9, 17, 0],
+            [6, 11, 18, 0],
+            [8, 7, 19, 0], // 20: a letter, 128 pushes, 17
+        ],
+    )
+}
+
+/// The same 128 entries, popped in an inner checkpoint and restored: nobody owes them.
+pub fn debt_restored(letters: usize, kind: i32) -> Case {
+    owing(
+        letters,
+        &[
+            [6, 10, 12, 0],                       // 13: pops, then fails
+            [kind, 13, i32::from(kind == 12), 0], // 14: the inner checkpoint
+            [20, 20, 0, 0],                       // 15: the rule once more
+            [11, 15, 0, 0],
+            [7, 14, 16, 0],
+            [9, 17, 0, 0], // 18: the outer checkpoint
+            [6, 11, 18, 0],
+            [8, 7, 19, 0], // 20: a letter, 18
+            [6, 9, 20, 0], // 128 pushes, 20
+        ],
+    )
+}
+
+/// `letters` times 128 entries are owed, and one more.
+pub fn debt_and_one(letters: usize) -> Case {
+    owing(
+        letters,
+        &[
+            [20, 22, 0, 0], // 13: the rule once more
+            [15, 0, 0, 0],
+            [9, 14, 0, 0],  // 15: the last checkpoint, for one entry
+            [6, 2, 15, 0],  // 16: one push, 15
+            [7, 13, 16, 0], // 17: where no letter is left, 16
+            [6, 10, 17, 0],
+            [9, 18, 0, 0], // 19: the checkpoint
+            [6, 9, 19, 0],
+            [6, 11, 20, 0],
+            [8, 7, 21, 0], // 22: a letter, 128 pushes, 19
+        ],
+    )
 }

@@ -14,11 +14,59 @@ struct Sheet<'r> {
 }
 
 pub fn case(rng: &mut Rng) -> Case {
-    match rng.below(6) {
+    match rng.below(8) {
         0 | 1 => attempts(rng),
         2 => pairs(rng),
+        3 => checkpoints(rng),
+        4 => limited(rng),
         _ => trace(rng),
     }
+}
+
+/// Pushes and pops of nothing, inside checkpoints that are dropped or restored.
+fn checkpoints(rng: &mut Rng) -> Case {
+    let mut sheet = Sheet { rng, nodes: Vec::new() };
+    let nothing = sheet.line([4, 0, 0, 0]);
+    let push = sheet.line([14, nothing, 0, 0]);
+    let two = sheet.line([6, push, push, 0]);
+    let four = sheet.line([6, two, two, 0]);
+    let rest = sheet.checkpoints(push, 3);
+    sheet.line([6, four, rest, 0]);
+    let nodes = sheet.nodes;
+    Case::new(&nodes, LITERALS, "")
+}
+
+/// What goes on after a limit: terminals match, pops pop, and nothing is entered any more.
+fn limited(rng: &mut Rng) -> Case {
+    let mut sheet = Sheet { rng, nodes: Vec::new() };
+    let before = sheet.before();
+    let letter = sheet.letter();
+    let entered = sheet.wrapped(letter);
+    let entered = sheet.wrapped(entered);
+    let pop = [15, 17, 4][sheet.rng.below(3)];
+    let pop = sheet.line([pop, 0, 0, 0]);
+    let a = sheet.line([1, 0, 1, 0]);
+    let instead = sheet.line([6, a, pop, 0]);
+    let either = sheet.line([7, entered, instead, 0]);
+    let kind = sheet.rng.pick(&[10, 10, 11, 9]);
+    let again = sheet.line([kind, either, 0, 0]);
+    let then = match sheet.rng.below(3) {
+        0 => sheet.line([15, 0, 0, 0]),
+        1 => sheet.line([17, 0, 0, 0]),
+        _ => sheet.observer(),
+    };
+    let chain = 6 + sheet.rng.below(2) as i32;
+    let rest = sheet.line([chain, again, then, 0]);
+    sheet.line([6, before, rest, 0]);
+    let nodes = sheet.nodes;
+    let text = "ab".chars().chain((0..rng.below(6)).map(|_| 'a')).collect::<String>();
+    let mut case = Case::new(&nodes, LITERALS, &text);
+    if rng.once_in(2) {
+        case.depth_limit = rng.within(1, 3) as u32;
+    } else {
+        case.call_limit = rng.within(1, 9) as u32;
+    }
+    case
 }
 
 /// Pairs that are made and cut again, in a tokens area that they just fit in, or just do not.
@@ -156,6 +204,29 @@ impl Sheet<'_> {
                     _ => self.line([kind, failing, 0, 0]),
                 };
                 [7, failing, self.pairs(depth - 1), 0]
+            }
+        };
+        self.line(node)
+    }
+
+    fn checkpoints(&mut self, push: i32, depth: usize) -> i32 {
+        let node = match self.rng.below(if depth == 0 { 4 } else { 12 }) {
+            0 => return push,
+            1 | 2 => [15, 0, 0, 0],
+            3 => [[15, 17][self.rng.below(2)], 0, 0, 0],
+            4..=6 => [6, self.checkpoints(push, depth - 1), self.checkpoints(push, depth - 1), 0],
+            7..=9 => {
+                let kind = self.rng.pick(&[9, 9, 18, 12]);
+                [kind, self.checkpoints(push, depth - 1), i32::from(kind == 12), 0]
+            }
+            _ => {
+                // Restored, then on from there.
+                let inner = self.checkpoints(push, depth - 1);
+                let z = self.line([1, 2, 1, 0]);
+                let failing = self.line([6, inner, z, 0]);
+                let kind = self.rng.pick(&[9, 12, 18]);
+                let restored = self.line([kind, failing, 0, 0]);
+                [7, restored, self.checkpoints(push, depth - 1), 0]
             }
         };
         self.line(node)

@@ -20,7 +20,7 @@ use compare::{boundary, damage, exhaustive, probe, random, stack, tight};
 use reference::Sheet;
 
 const LONGEST_TEXT: usize = 40;
-const MOST_LINES: usize = 18;
+const MOST_LINES: usize = 22;
 const MOST_TOKEN_NUMBERS: usize = 100;
 /// Boundary cases may be longer, but have to stay below what one file holds.
 const MOST_BOUNDARY_NUMBERS: usize = 20_000;
@@ -270,7 +270,7 @@ fn full_stack(rng: &mut Rng) -> Case {
     match rng.below(4) {
         0 => case.nodes[4 * line] = rng.pick(&[6, 9, 11, 14, 18]),
         1 => {
-            let checkpoint = case.nodes.chunks(4).position(|node| node[0] == 9).expect("line 15");
+            let checkpoint = case.nodes.chunks(4).position(|node| node[0] == 9).expect("line 16");
             case.nodes[4 * checkpoint] = rng.pick(&[12, 18]);
             case.nodes[4 * checkpoint + 2] = 0;
         }
