@@ -17,3 +17,5 @@ pub mod Lines
 pub mod Fit
 pub mod Attempts
 pub mod Report
+pub mod Evaluation
+pub mod Ends

@@ -2,6 +2,7 @@
 pub mod areas;
 pub mod attempts;
 pub mod call_limit_tracker;
+pub mod endings;
 pub mod entry;
 pub mod grammar;
 pub mod node;
@@ -9,4 +10,5 @@ pub mod nullable;
 pub mod parser_state;
 pub mod queueable_token;
 pub mod stack;
+pub mod stack_state;
 pub mod state;

@@ -1,0 +1,41 @@
+-- What each function of the evaluation asks and answers: one equation with pest's evaluation, through the abstraction of Areas.
+use mathlib.Core.Path.{_≡_}
+use mathlib.Core.Bool.{Bool, true, false}
+use mathlib.Core.List.{List}
+use mathlib.Core.Option.{Option, none}
+use Prim.Native.Nat.{ℕ, _+_, _*_, _≤_}
+use lib.IntN.{ℤ}
+use lib.ListN.{length}
+use Rattle.engine.specs.Ending.{Ending}
+use Rattle.engine.specs.Grammar.{Exp, line-count, misfit, rule-at}
+use Rattle.engine.specs.Nullable.{still-repeat}
+use Rattle.engine.specs.Reading.{Setting}
+use Rattle.engine.specs.Pest as Pest
+use Rattle.engine.specs.Pest.{ParserState}
+use Rattle.engine.specs.Areas.{scratch-size}
+use Rattle.engine.specs.Sound.{most-checkpoints}
+use Rattle.engine.specs.Fit.{Fit}
+
+abbrev pub setting-of : List ℤ → (literals text : List ℕ) → (capacity : ℕ) → Setting
+setting-of ns literals text capacity = record { text = text; rule-at = rule-at ns literals; capacity = capacity }
+
+-- The tests of a run have passed, the areas are large enough, the state is fit, and there is a checkpoint for each call that may
+-- still open.
+pub record Ready (ns : List ℤ) (literals text tokens scratch : List ℕ) (capacity depth : ℕ) (m : ParserState) : Type 0 where
+  pub fitting : misfit ns literals ≡ none
+  pub moving : still-repeat ns ≡ none
+  pub short : length text ≤ 65535
+  pub small : capacity ≤ 65535
+  pub area : capacity * 5 ≤ length tokens
+  pub room : scratch-size ≤ length scratch
+  pub fit : Fit (setting-of ns literals text capacity) m
+  pub deep : length (m .stack .lengths) + depth ≤ most-checkpoints
+
+-- A line of the grammar.
+pub record Line (ns : List ℤ) (line : ℕ) : Type 0 where
+  pub low : 1 ≤ line
+  pub high : line ≤ line-count ns
+
+-- pest's evaluation, with the stops, of a tree where `depth` more calls may be open.
+unfoldable pub evaluated : List ℤ → (literals text : List ℕ) → (capacity depth : ℕ) → Exp → ParserState → Ending ParserState
+evaluated ns literals text capacity depth e m = Pest.eval (setting-of ns literals text capacity) true depth e m
