@@ -20,3 +20,4 @@ pub mod Agree
 pub mod Loop
 pub mod AttemptLaws
 pub mod ReportLaws
+pub mod EndLaws

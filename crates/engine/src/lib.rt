@@ -10,5 +10,4 @@ pub mod nullable;
 pub mod parser_state;
 pub mod queueable_token;
 pub mod stack;
-pub mod stack_state;
 pub mod state;

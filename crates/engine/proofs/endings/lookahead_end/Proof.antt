@@ -1,58 +1,49 @@
+-- In each arm the ending is known; both restore, and ask for opposite answers.
+use mathlib.Core.Path.{ap, subst, _∙_}
+use mathlib.Core.Bool.{not}
+use Rattle.engine.specs.Pest.{restored}
+use Rattle.engine.specs.Areas.{view}
+use Rattle.engine.specs.Ends.{EndReady, looking}
+use Rattle.engine.proofs.EndLaws.{back-to, back-ready, looking-not}
 use borrow.Author.Needs.{needs}
 use Rattle.engine.proofs.endings.lookahead_end.Statement.{statement}
 use Rattle.engine.proofs.endings.lookahead_end.Tie as tie
-use Rattle.engine.proofs.endings.lookahead_end.Reads as reads
-use Rattle.engine.proofs.endings.lookahead_end.Lts as lts
-use Rattle.engine.proofs.endings.looked.Reads as looked-reads
-use Rattle.engine.proofs.stack_state.restored.Reads as restored-reads
 
--- src/endings.rt:91:20
 enum-known-r : tie.Need-enum-known-r
 enum-known-r c = search needs
 
--- src/endings.rt:97:30
 restored-requires : tie.Need-restored-requires
-restored-requires c κs = ?
+restored-requires c κs = back-ready (c .before .before .before .before .before .before .before .before .before .args .scratch .now) (c .before .before .before .before .before .before .r .given .0 .0) (c .before .before .before .before .before .before .before .before .before .args .position) (c .before .before .before .before .before .before .before .before .before .args .lookahead) (subst (EndReady (c .before .before .before .before .before .before .before .before .before .args .scratch .now) 0) (c .before .before .before .before .before .before .r .given .1) (c .before .before .before .before .before .before .before .before .before .pre) .0)
 
--- src/endings.rt:97:13
 looked-requires : tie.Need-looked-requires
 looked-requires c κs = search needs
 
--- src/endings.rt:99:21
 enum-known-r-2 : tie.Need-enum-known-r-2
 enum-known-r-2 c = search needs
 
--- src/endings.rt:105:31
 restored-requires-2 : tie.Need-restored-requires-2
-restored-requires-2 c κs = ?
+restored-requires-2 c κs = back-ready (c .before .before .before .before .before .before .before .before .before .args .scratch .now) (c .before .before .before .before .before .before .r2 .given .0 .0) (c .before .before .before .before .before .before .before .before .before .args .position) (c .before .before .before .before .before .before .before .before .before .args .lookahead) (subst (EndReady (c .before .before .before .before .before .before .before .before .before .args .scratch .now) 0) (c .before .before .before .before .before .before .r2 .given .1) (c .before .before .before .before .before .before .before .before .before .pre) .0)
 
--- src/endings.rt:105:13
 looked-requires-2 : tie.Need-looked-requires-2
 looked-requires-2 c κs = search needs
 
--- src/endings.rt:107:22
 enum-known-r-3 : tie.Need-enum-known-r-3
 enum-known-r-3 c = search needs
 
--- src/endings.rt:86:1
 same-length : tie.Need-same-length
 same-length c = search needs
 
--- src/endings.rt:86:1
 returns : tie.Need-returns
-returns c = ?
+returns c = λ tokens. rw (c .before .before .before .before .before .before .before .before .before .before .r .given .1) (c .looked .ensures tokens _ ∙ ap (looking (c .before .before .before .before .before .before .before .before .before .before .before .before .before .args .positive)) (c .before .before .before .restored .ensures tokens))
 
--- src/endings.rt:86:1
 same-length-2 : tie.Need-same-length-2
 same-length-2 c = search needs
 
--- src/endings.rt:86:1
 returns-2 : tie.Need-returns-2
-returns-2 c = ?
+returns-2 c = λ tokens. rw (c .before .before .before .before .before .before .before .before .before .before .r2 .given .1) (c .looked2 .ensures tokens _ ∙ ap (looking (not (c .before .before .before .before .before .before .before .before .before .before .before .before .before .args .positive))) (c .before .before .before .restored2 .ensures tokens) ∙ looking-not (c .before .before .before .before .before .before .before .before .before .before .before .before .before .args .positive) (restored (view tokens (c .before .before .before .before .before .before .before .before .before .before .before .before .before .args .scratch .now) (back-to (c .before .before .before .before .before .before .before .before .before .before .r2 .given .0 .0) (c .before .before .before .before .before .before .before .before .before .before .before .before .before .args .position) (c .before .before .before .before .before .before .before .before .before .before .before .before .before .args .lookahead)))))
 
--- src/endings.rt:86:1
 returns-3 : tie.Need-returns-3
-returns-3 c = ?
+returns-3 c = λ tokens. rw (c .before .r3 .given .1)
 
 pub lookahead-end-spec : {M : Type 1} → statement M
 lookahead-end-spec =

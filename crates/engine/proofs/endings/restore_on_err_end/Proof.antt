@@ -1,50 +1,40 @@
+-- In each arm the ending is known, and its state goes on as the checkpoint's end says.
+use mathlib.Core.Path.{ap, subst}
+use Rattle.engine.specs.Ending.{Ok, Err}
+use Rattle.engine.specs.Ends.{EndReady}
 use borrow.Author.Needs.{needs}
 use Rattle.engine.proofs.endings.restore_on_err_end.Statement.{statement}
 use Rattle.engine.proofs.endings.restore_on_err_end.Tie as tie
-use Rattle.engine.proofs.endings.restore_on_err_end.Reads as reads
-use Rattle.engine.proofs.endings.restore_on_err_end.Lts as lts
-use Rattle.engine.proofs.stack_state.checkpoint_ok.Reads as checkpoint-ok-reads
-use Rattle.engine.proofs.stack_state.restored.Reads as restored-reads
 
--- src/endings.rt:45:20
 enum-known-r : tie.Need-enum-known-r
 enum-known-r c = search needs
 
--- src/endings.rt:45:37
 checkpoint-ok-requires : tie.Need-checkpoint-ok-requires
-checkpoint-ok-requires c κs = ?
+checkpoint-ok-requires c κs = subst (EndReady (c .before .before .before .before .before .args .scratch .now) 0) (c .before .before .r .given .1) (c .before .before .before .before .before .pre) .0
 
--- src/endings.rt:46:21
 enum-known-r-2 : tie.Need-enum-known-r-2
 enum-known-r-2 c = search needs
 
--- src/endings.rt:46:39
 restored-requires : tie.Need-restored-requires
-restored-requires c κs = ?
+restored-requires c κs = subst (EndReady (c .before .before .before .before .before .args .scratch .now) 0) (c .before .before .r2 .given .1) (c .before .before .before .before .before .pre) .0
 
--- src/endings.rt:47:22
 enum-known-r-3 : tie.Need-enum-known-r-3
 enum-known-r-3 c = search needs
 
--- src/endings.rt:40:1
 same-length : tie.Need-same-length
 same-length c = search needs
 
--- src/endings.rt:40:1
 returns : tie.Need-returns
-returns c = ?
+returns c = λ tokens. rw (c .before .before .before .before .before .r .given .1) (ap Ok (c .before .before .checkpoint-ok .ensures tokens))
 
--- src/endings.rt:40:1
 same-length-2 : tie.Need-same-length-2
 same-length-2 c = search needs
 
--- src/endings.rt:40:1
 returns-2 : tie.Need-returns-2
-returns-2 c = ?
+returns-2 c = λ tokens. rw (c .before .before .before .before .before .r2 .given .1) (ap Err (c .before .before .restored .ensures tokens))
 
--- src/endings.rt:40:1
 returns-3 : tie.Need-returns-3
-returns-3 c = ?
+returns-3 c = λ tokens. rw (c .before .r3 .given .1)
 
 pub restore-on-err-end-spec : {M : Type 1} → statement M
 restore-on-err-end-spec =

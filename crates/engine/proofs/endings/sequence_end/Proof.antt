@@ -1,50 +1,42 @@
+-- In each arm the ending is known; the queue cut to an index is the area's first tokens.
+use mathlib.Core.Path.{ap, subst, _∙_}
+use Rattle.engine.specs.Ending.{Ok, Err}
+use Rattle.engine.specs.Pest.{restored}
+use Rattle.engine.specs.Ends.{EndReady}
+use Rattle.engine.proofs.EndLaws.{cut-view, cut-ready}
 use borrow.Author.Needs.{needs}
 use Rattle.engine.proofs.endings.sequence_end.Statement.{statement}
 use Rattle.engine.proofs.endings.sequence_end.Tie as tie
-use Rattle.engine.proofs.endings.sequence_end.Reads as reads
-use Rattle.engine.proofs.endings.sequence_end.Lts as lts
-use Rattle.engine.proofs.stack_state.checkpoint_ok.Reads as checkpoint-ok-reads
-use Rattle.engine.proofs.stack_state.restored.Reads as restored-reads
 
--- src/endings.rt:26:20
 enum-known-r : tie.Need-enum-known-r
 enum-known-r c = search needs
 
--- src/endings.rt:26:37
 checkpoint-ok-requires : tie.Need-checkpoint-ok-requires
-checkpoint-ok-requires c κs = ?
+checkpoint-ok-requires c κs = subst (EndReady (c .before .before .before .before .before .args .scratch .now) (c .before .before .before .before .before .args .queue .0)) (c .before .before .r .given .1) (c .before .before .before .before .before .pre) .0
 
--- src/endings.rt:27:21
 enum-known-r-2 : tie.Need-enum-known-r-2
 enum-known-r-2 c = search needs
 
--- src/endings.rt:33:25
 restored-requires : tie.Need-restored-requires
-restored-requires c κs = ?
+restored-requires c κs = cut-ready (c .before .before .before .before .before .before .before .before .args .scratch .now) (c .before .before .before .before .before .r2 .given .0 .0) (c .before .before .before .before .before .before .before .before .args .position) (c .before .before .before .before .before .before .before .before .args .queue) (subst (EndReady (c .before .before .before .before .before .before .before .before .args .scratch .now) (c .before .before .before .before .before .before .before .before .args .queue .0)) (c .before .before .before .before .before .r2 .given .1) (c .before .before .before .before .before .before .before .before .pre) .0)
 
--- src/endings.rt:35:22
 enum-known-r-3 : tie.Need-enum-known-r-3
 enum-known-r-3 c = search needs
 
--- src/endings.rt:21:1
 same-length : tie.Need-same-length
 same-length c = search needs
 
--- src/endings.rt:21:1
 returns : tie.Need-returns
-returns c = ?
+returns c = λ tokens. rw (c .before .before .before .before .before .r .given .1) (ap Ok (c .before .before .checkpoint-ok .ensures tokens))
 
--- src/endings.rt:21:1
 same-length-2 : tie.Need-same-length-2
 same-length-2 c = search needs
 
--- src/endings.rt:21:1
 returns-2 : tie.Need-returns-2
-returns-2 c = ?
+returns-2 c = λ tokens. rw (c .before .before .before .before .before .before .before .before .r2 .given .1) (ap Err (c .before .before .restored .ensures tokens ∙ ap restored (cut-view tokens (c .before .before .before .before .before .before .before .before .before .before .before .args .scratch .now) (c .before .before .before .before .before .before .before .before .r2 .given .0 .0) (c .before .before .before .before .before .before .before .before .before .before .before .args .position) (c .before .before .before .before .before .before .before .before .before .before .before .args .queue) (subst (EndReady (c .before .before .before .before .before .before .before .before .before .before .before .args .scratch .now) (c .before .before .before .before .before .before .before .before .before .before .before .args .queue .0)) (c .before .before .before .before .before .before .before .before .r2 .given .1) (c .before .before .before .before .before .before .before .before .before .before .before .pre) .1))))
 
--- src/endings.rt:21:1
 returns-3 : tie.Need-returns-3
-returns-3 c = ?
+returns-3 c = λ tokens. rw (c .before .r3 .given .1)
 
 pub sequence-end-spec : {M : Type 1} → statement M
 sequence-end-spec =
