@@ -21,3 +21,8 @@ pub mod Loop
 pub mod AttemptLaws
 pub mod ReportLaws
 pub mod EndLaws
+pub mod Matching
+pub mod Slices
+pub mod IndexLaws
+pub mod PopMatch
+pub mod StateSteps

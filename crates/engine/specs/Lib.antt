@@ -19,3 +19,4 @@ pub mod Attempts
 pub mod Report
 pub mod Evaluation
 pub mod Ends
+pub mod StackMatch

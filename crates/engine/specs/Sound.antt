@@ -3,6 +3,7 @@ use mathlib.Core.Path.{_≡_}
 use mathlib.Core.List.{List, [], _∷_}
 use Prim.Native.Nat.{ℕ, _≤_, _<_}
 use lib.ListN.{length, getD}
+use Rattle.matching.specs.declared.position.BytePosition.{BytePosition}
 use Rattle.engine.specs.declared.stack.Stack.{Stack}
 use Rattle.engine.specs.declared.parser_state.ParserState.{ParserState}
 use Rattle.engine.specs.Ending.{Checkpoint}
@@ -40,6 +41,16 @@ pub record StateReady (scratch : List ℕ) (s : ParserState) : Type 0 where
   pub stack : StackReady scratch (s .stack)
   pub positives : s .attempts .positives ≤ most-attempts
   pub negatives : s .attempts .negatives ≤ most-attempts
+
+-- "text over 65,535 bytes" is refused, so that a position fits 32 bits.
+abbrev pub most-text : ℕ
+most-text = 65535
+
+-- Of a push: where the span starts and where the state is.
+pub record PushReady (scratch : List ℕ) (start : BytePosition) (s : ParserState) : Type 0 where
+  pub state : StateReady scratch s
+  pub from : start .0 ≤ most-text
+  pub to : s .position .0 ≤ most-text
 
 -- b is a, changed in the stack's regions at most: the attempts, which lie between them, and what stands after them are as they were.
 pub record OutsideStack (a b : List ℕ) : Type 0 where

@@ -10,4 +10,6 @@ pub mod nullable;
 pub mod parser_state;
 pub mod queueable_token;
 pub mod stack;
+pub mod stack_match;
+pub mod stack_state;
 pub mod state;

@@ -53,7 +53,7 @@ pub fn push(scratch: &mut [u32], s: Stack, start: u32, end: u32) -> Pushed
 }
 
 // The span that a pair of numbers says.
-fn span_of(x: Pair) -> Span
+pub fn span_of(x: Pair) -> Span
     ensures { λ r. ⌜ (r .start .0 ≡ x .first) × (r .end .0 ≡ x .second) ⌝ }
 {
     Span {
