@@ -7,7 +7,7 @@ use native.Mathlib.Decide.{decLt, decLe}
 use native.Mathlib.Numerals.{add-one}
 use lib.ListN.{length, getD, take, set, replicate, length-set, length-append, length-take, length-replicate, getD-replicate, List·getD-append}
 use lib.Seq.{getD-set-same, getD-set-other, take-append-le, take-all, take-suc, take-length, getD-take, getD-append-add, ext-getD}
-use Rattle.engine.specs.Areas.{numbers, Outside}
+use Rattle.engine.specs.Areas.{numbers, pairs, Outside}
 use Rattle.engine.specs.Outcome.{filled}
 
 -- ── the frame ──
@@ -72,6 +72,15 @@ numbers-take a at (suc n) m h = go (λ l. numbers-take a at n m l) (decLe m n)
     go r (no f) =
         let e : m ≡ suc n = omega arith in
         rw e (take-all (suc n) (numbers a at (suc n)) (omega (arith, numbers-length a at (suc n))))
+
+-- ── a region of pairs ──
+pub pairs-same : {A : Type 0} (mk : ℕ → ℕ → A) (a b : List ℕ) (at n : ℕ) → Same at (at + n * 2) a b → pairs mk a at n ≡ pairs mk b at n
+unfolding pairs
+pairs-same mk a b at zero h = refl
+pairs-same {A} mk a b at (suc n) h =
+    ap₂ (λ (x : A) (l : List A). x ∷ l)
+    (ap₂ mk (h (at + n * 2) (omega arith) (omega arith)) (h (at + n * 2 + 1) (omega arith) (omega arith)))
+    (pairs-same mk a b at n (λ k l m. h k l (omega arith)))
 
 -- ── an area zeroed from an index on ──
 -- b is a, whose numbers in [from, to) are zero

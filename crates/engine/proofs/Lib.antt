@@ -26,3 +26,4 @@ pub mod Slices
 pub mod IndexLaws
 pub mod PopMatch
 pub mod StateSteps
+pub mod RuleLaws

@@ -20,3 +20,4 @@ pub mod Report
 pub mod Evaluation
 pub mod Ends
 pub mod StackMatch
+pub mod Rule

@@ -47,6 +47,12 @@ pub record Patched (a : List ℕ) (i v : ℕ) (b : List ℕ) : Type 0 where
   pub written : (n : ℕ) → Written a n → Written b n
   pub others : Outside (i * 5) (i * 5 + 5) a b
 
+-- b is a, where the Start at index i has the partner n, if it is one of the first n tokens.
+pub record Paired (a : List ℕ) (i n : ℕ) (b : List ℕ) : Type 0 where
+  pub queue : queue-of b n ≡ set (queue-of a n) i (with-end n (getD (queue-of a n) i (Start 0 0)))
+  pub written : Written a n → Written b n
+  pub others : Outside 0 (n * 5) a b
+
 -- b is a, where the last of the first n tokens has the tag u, if it is an End.
 pub record Tagged (a : List ℕ) (n u : ℕ) (b : List ℕ) : Type 0 where
   pub queue : queue-of b n ≡ tag-last u (queue-of a n)

@@ -9,6 +9,7 @@ pub mod node;
 pub mod nullable;
 pub mod parser_state;
 pub mod queueable_token;
+pub mod rule;
 pub mod stack;
 pub mod stack_match;
 pub mod stack_state;

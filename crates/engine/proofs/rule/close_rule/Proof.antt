@@ -1,0 +1,61 @@
+-- The Start gets its partner and an End is pushed, there is no room for it, or the rule is not recorded.
+use mathlib.Core.Path.{sym, _∙_}
+use Rattle.engine.specs.Areas.{view, queue-of}
+use Rattle.engine.proofs.AreaLaws.{outside-refl, outside-trans, outside-wider}
+use Rattle.engine.proofs.RuleLaws.{close-ok, close-full, close-off, paired-queue, room-yes, room-no}
+use borrow.Author.Needs.{needs}
+use native.Mathlib.Omega.{arith}
+use Rattle.engine.proofs.rule.close_rule.Statement.{statement}
+use Rattle.engine.proofs.rule.close_rule.Tie as tie
+
+produces-requires : tie.Need-produces-requires
+produces-requires c κs = search needs
+
+add-after : tie.Need-add-after
+add-after c = search needs
+
+pair-up-requires : tie.Need-pair-up-requires
+pair-up-requires c κs = search needs
+
+push-end-requires : tie.Need-push-end-requires
+push-end-requires c κs = search needs
+
+same-length : tie.Need-same-length
+same-length c = search needs
+
+returns : tie.Need-returns
+returns c =
+    (
+      λ g scratch e. close-ok g (c .before .before .before .before .before .before .before .before .before .before .before .before .before .before .before .before .before .before .before .before .args .line) (c .before .before .before .before .before .before .before .before .before .before .before .before .before .before .before .before .before .before .before .before .args .rule) (c .before .before .before .before .before .before .before .before .before .before .before .before .before .before .before .before .before .before .before .before .args .index .0) (view (c .before .before .before .before .before .before .before .before .before .before .before .before .before .before .before .before .before .before .before .before .args .tokens .now) scratch (c .before .before .before .before .before .before .before .before .before .before .before .before .before .before .before .before .before .before .before .before .args .s)) _ _ (sym (c .before .before .before .before .before .before .before .before .before .before .before .before .before .before .before .before .produces .ensures (c .before .before .before .before .before .before .before .before .before .before .before .before .before .before .before .before .before .before .before .before .args .tokens .now) scratch) ∙ c .before .before .before .before .before .before .before .before .before .before .before .before .before .before .before .if1 .taken) (room-yes (c .before .before .before .before .before .before .before .before .before .before .before .before .before .before .before .before .before .before .before .before .args .tokens .now) (c .before .before .before .before .before .before .before .before .before .before .before .before .before .before .before .before .before .before .before .before .args .s .queue .0) (c .before .before .before .before .before .before .before .before .before .before .before .before .before .before .before .before .before .before .before .before .args .capacity) (g .capacity) e (c .before .before .before .before .before .before .before .before .before .before .before .before .before .if2 .taken)) (paired-queue (c .before .before .before .before .before .before .before .before .before .before .before .before .before .before .before .before .before .before .before .before .args .tokens .now) (c .before .before .before .before .before .before .before .before .before .before .pair-up .last .0) (c .before .before .before .before .before .before .before .before .before .before .before .before .before .before .before .before .before .before .before .before .args .index .0) (c .before .before .before .before .before .before .before .before .before .before .before .before .before .before .before .before .before .before .before .before .args .s .queue .0) (c .before .before .before .before .before .before .before .before .before .before .pair-up .ensures)) (c .before .before .before .before .before .before .push-end .ensures .queue),
+      record {
+        written = λ w. c .before .before .before .before .before .before .push-end .ensures .written (c .before .before .before .before .before .before .before .before .before .before .pair-up .ensures .written w);
+        others = outside-trans (outside-wider (omega arith) (omega arith) (c .before .before .before .before .before .before .before .before .before .before .pair-up .ensures .others)) (outside-wider (omega arith) (omega arith) (c .before .before .before .before .before .before .push-end .ensures .others));
+      },
+    )
+
+returns-2 : tie.Need-returns-2
+returns-2 c =
+    (
+      λ g scratch e. close-full g (c .before .before .before .before .before .before .before .args .line) (c .before .before .before .before .before .before .before .args .rule) (c .before .before .before .before .before .before .before .args .index .0) (view (c .before .before .before .before .before .before .before .args .tokens .now) scratch (c .before .before .before .before .before .before .before .args .s)) (sym (c .before .before .before .produces .ensures (c .before .before .before .before .before .before .before .args .tokens .now) scratch) ∙ c .before .before .if1 .taken) (room-no (c .before .before .before .before .before .before .before .args .tokens .now) (c .before .before .before .before .before .before .before .args .s .queue .0) (c .before .before .before .before .before .before .before .args .capacity) (g .capacity) e (c .if2 .left)),
+      record { written = λ w. tt; others = outside-refl (c .before .before .before .before .before .before .before .args .tokens .now) },
+    )
+
+returns-3 : tie.Need-returns-3
+returns-3 c =
+    (
+      λ g scratch e. close-off g (c .before .before .before .before .before .args .line) (c .before .before .before .before .before .args .rule) (c .before .before .before .before .before .args .index .0) (view (c .before .before .before .before .before .args .tokens .now) scratch (c .before .before .before .before .before .args .s)) (sym (c .before .produces .ensures (c .before .before .before .before .before .args .tokens .now) scratch) ∙ c .if1 .left),
+      record { written = λ w. w; others = outside-refl (c .before .before .before .before .before .args .tokens .now) },
+    )
+
+pub close-rule-spec : {M : Type 1} → statement M
+close-rule-spec =
+    tie.close
+    (tie.spec
+    produces-requires
+    add-after
+    pair-up-requires
+    push-end-requires
+    same-length
+    returns
+    returns-2
+    returns-3)

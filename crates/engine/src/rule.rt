@@ -1,0 +1,192 @@
+// The leaves of `rule` and `tag_node`: what they do to the state before and after the body is evaluated.
+use crate::attempts::Noted;
+use crate::attempts::Tracked;
+use crate::attempts::track;
+use crate::parser_state::Atomicity;
+use crate::parser_state::Cause;
+use crate::parser_state::Ending;
+use crate::parser_state::Lookahead;
+use crate::parser_state::ParserState;
+use crate::queueable_token::push_end;
+use crate::queueable_token::push_start;
+use crate::queueable_token::set_partner;
+use crate::queueable_token::tag_last;
+use matching::position::BytePosition;
+use matching::position::TokenIndex;
+ghost use mathlib.Core.Path.{_≡_};
+ghost use mathlib.Core.Bool.{Bool, true};
+ghost use mathlib.Core.List.{List};
+ghost use Prim.Native.Nat.{ℕ, _+_, _-_, _*_, _≤_};
+ghost use lib.ListN.{length, take};
+ghost use Rattle.engine.specs.Ending as Model;
+ghost use Rattle.engine.specs.Ending.{if_then_else_, is-negative, is-none, is-atomic};
+ghost use Rattle.engine.specs.Reading.{Setting};
+ghost use Rattle.engine.specs.Pest as Pest;
+ghost use Rattle.engine.specs.Areas.{Outside, view, view-end, positives-at, lengths-at};
+ghost use Rattle.engine.specs.Attempts.{Lent};
+ghost use Rattle.engine.specs.Tokens.{Paired};
+ghost use Rattle.engine.specs.Rule.{starting, dropped, Recording, Tracking, Keeps};
+
+pub fn is_negative(l: Lookahead) -> bool
+    ensures { λ r. ⌜ r ≡ is-negative l ⌝ }
+{
+    match l {
+        Lookahead::Negative => true,
+        Lookahead::Positive => false,
+        Lookahead::None => false,
+    }
+}
+
+pub fn is_atomic(a: Atomicity) -> bool
+    ensures { λ r. ⌜ r ≡ is-atomic a ⌝ }
+{
+    match a {
+        Atomicity::Atomic => true,
+        Atomicity::CompoundAtomic => false,
+        Atomicity::NonAtomic => false,
+    }
+}
+
+fn is_none(l: Lookahead) -> bool
+    ensures { λ r. ⌜ r ≡ is-none l ⌝ }
+{
+    match l {
+        Lookahead::None => true,
+        Lookahead::Positive => false,
+        Lookahead::Negative => false,
+    }
+}
+
+// "A rule is recorded if lookahead is None and atomicity isn't Atomic."
+pub fn produces(s: ParserState) -> bool
+    ensures { λ r. ⌜ ((tokens scratch : List ℕ) → r ≡ Pest.produces (view tokens scratch s)) ⌝ }
+{
+    let l = s.lookahead;
+    let a = s.atomicity;
+    if is_none(l) { !is_atomic(a) } else { false }
+}
+
+// The Start of a rule that is recorded.
+pub fn start_rule(tokens: &mut [u32], capacity: usize, line: u32, s: ParserState) -> Ending
+    requires { ⌜ Recording (now tokens) capacity s ⌝ }
+    ensures { λ r. ⌜ ((g : Setting) (scratch : List ℕ) → g .capacity ≡ capacity → view-end (now (tokens .exit)) scratch r ≡ starting g line (view (now (tokens .entry)) scratch s)) ⌝ }
+    ensures { λ r. ⌜ Keeps (s .queue .0 * 5) (s .queue .0 * 5 + 5) (now (tokens .entry)) (s .queue .0) (now (tokens .exit)) r ⌝ }
+{
+    let n = s.queue;
+    let p = s.position;
+    if produces(s) {
+        if n.0 < capacity {
+            let after = n.0 + 1;
+            let next = TokenIndex(after);
+            push_start(tokens, n, p);
+            Ending::Ok(ParserState { queue: next, ..s })
+        } else {
+            Ending::Stop(Cause::TokensFull(line))
+        }
+    } else {
+        Ending::Ok(s)
+    }
+}
+
+// `track`, where it is due by how the body ended, and outside Atomic.
+pub fn track_rule(
+    scratch: &mut [u32],
+    due: bool,
+    line: u32,
+    rule: u32,
+    p: BytePosition,
+    n: Noted,
+    s: ParserState,
+) -> Ending
+    requires { ⌜ Tracking (now scratch) s ⌝ }
+    ensures { λ r. ⌜ ((g : Setting) (tokens : List ℕ) → view-end tokens (now (scratch .exit)) r ≡ Pest.tracking g true due line rule (p .0) (n .positives) (n .negatives) (n .total) (view tokens (now (scratch .entry)) s) (λ (t : Pest.ParserState). Model.Ok t)) × Outside positives-at lengths-at (now (scratch .entry)) (now (scratch .exit)) ⌝ }
+{
+    let t = s.attempts;
+    let l = s.lookahead;
+    let a = s.atomicity;
+    let negative = is_negative(l);
+    if due {
+        if is_atomic(a) {
+            Ending::Ok(s)
+        } else {
+            match track(scratch, t, p, rule, n, negative) {
+                Tracked::Kept(u) => Ending::Ok(ParserState { attempts: u, ..s }),
+                Tracked::Full => Ending::Stop(Cause::AttemptsFull(line)),
+            }
+        }
+    } else {
+        Ending::Ok(s)
+    }
+}
+
+// The Start at `index` gets the partner n, if it is one of the n tokens.
+fn pair_up(tokens: &mut [u32], index: TokenIndex, n: TokenIndex)
+    requires { ⌜ (n .0 * 5 ≤ length (now tokens)) × (n .0 ≤ 65535) ⌝ }
+    ensures { λ _. ⌜ Paired (now (tokens .entry)) (index .0) (n .0) (now (tokens .exit)) ⌝ }
+{
+    if index.0 < n.0 {
+        set_partner(tokens, index, n);
+    }
+}
+
+// The End of a rule that is recorded, and the partner of its Start, which is the token at `index`.
+pub fn close_rule(
+    tokens: &mut [u32],
+    capacity: usize,
+    line: u32,
+    rule: u32,
+    index: TokenIndex,
+    s: ParserState,
+) -> Ending
+    requires { ⌜ Recording (now tokens) capacity s × (index .0 ≤ capacity) ⌝ }
+    ensures { λ r. ⌜ ((g : Setting) (scratch : List ℕ) → g .capacity ≡ capacity → view-end (now (tokens .exit)) scratch r ≡ Pest.close-rule g true line rule (index .0) (view (now (tokens .entry)) scratch s)) ⌝ }
+    ensures { λ r. ⌜ Keeps 0 (s .queue .0 * 5 + 5) (now (tokens .entry)) (s .queue .0) (now (tokens .exit)) r ⌝ }
+{
+    let n = s.queue;
+    let p = s.position;
+    if produces(s) {
+        if n.0 < capacity {
+            let after = n.0 + 1;
+            let next = TokenIndex(after);
+            pair_up(tokens, index, n);
+            push_end(tokens, n, index, rule, p);
+            Ending::Ok(ParserState { queue: next, ..s })
+        } else {
+            Ending::Stop(Cause::TokensFull(line))
+        }
+    } else {
+        Ending::Ok(s)
+    }
+}
+
+// The queue cut to before the Start of a rule that failed.
+pub fn drop_rule(index: TokenIndex, s: ParserState) -> ParserState
+    ensures { λ r. ⌜ ((tokens scratch : List ℕ) → view tokens scratch r ≡ dropped (index .0) (view tokens scratch s)) × (r .queue .0 ≤ s .queue .0) ⌝ }
+{
+    let n = s.queue;
+    if produces(s) {
+        if index.0 < n.0 {
+            ParserState { queue: index, ..s }
+        } else {
+            s
+        }
+    } else {
+        s
+    }
+}
+
+// "under lookahead None it sets the last sibling's tag, if any"
+pub fn tag_node(tokens: &mut [u32], tag: u32, s: ParserState) -> Ending
+    requires { ⌜ s .queue .0 * 5 ≤ length (now tokens) ⌝ }
+    ensures { λ r. ⌜ ((scratch : List ℕ) → view-end (now (tokens .exit)) scratch r ≡ Pest.tag-node tag (view (now (tokens .entry)) scratch s)) ⌝ }
+    ensures { λ r. ⌜ Keeps ((s .queue .0 - 1) * 5) (s .queue .0 * 5) (now (tokens .entry)) (s .queue .0) (now (tokens .exit)) r ⌝ }
+{
+    let l = s.lookahead;
+    let n = s.queue;
+    if is_none(l) {
+        tag_last(tokens, n, tag);
+        Ending::Ok(s)
+    } else {
+        Ending::Ok(s)
+    }
+}
