@@ -27,3 +27,5 @@ pub mod IndexLaws
 pub mod PopMatch
 pub mod StateSteps
 pub mod RuleLaws
+pub mod FinishLaws
+pub mod RuleEnds

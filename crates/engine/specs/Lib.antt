@@ -21,3 +21,4 @@ pub mod Evaluation
 pub mod Ends
 pub mod StackMatch
 pub mod Rule
+pub mod Finish

@@ -34,13 +34,13 @@ same-length : tie.Need-same-length
 same-length c = search needs
 
 returns : tie.Need-returns
-returns c = λ tokens. rw (c .before .before .before .before .before .before .before .before .before .before .r .given .1) (c .looked .ensures tokens _ ∙ ap (looking (c .before .before .before .before .before .before .before .before .before .before .before .before .before .args .positive)) (c .before .before .before .restored .ensures tokens))
+returns c = λ tokens. rw (c .before .before .before .before .before .before .before .before .before .before .r .given .1) (c .looked .ensures tokens _ ∙ ap (looking (c .before .before .before .before .before .before .before .before .before .before .before .before .before .args .positive)) (c .before .before .before .restored .ensures .0 tokens))
 
 same-length-2 : tie.Need-same-length-2
 same-length-2 c = search needs
 
 returns-2 : tie.Need-returns-2
-returns-2 c = λ tokens. rw (c .before .before .before .before .before .before .before .before .before .before .r2 .given .1) (c .looked2 .ensures tokens _ ∙ ap (looking (not (c .before .before .before .before .before .before .before .before .before .before .before .before .before .args .positive))) (c .before .before .before .restored2 .ensures tokens) ∙ looking-not (c .before .before .before .before .before .before .before .before .before .before .before .before .before .args .positive) (restored (view tokens (c .before .before .before .before .before .before .before .before .before .before .before .before .before .args .scratch .now) (back-to (c .before .before .before .before .before .before .before .before .before .before .r2 .given .0 .0) (c .before .before .before .before .before .before .before .before .before .before .before .before .before .args .position) (c .before .before .before .before .before .before .before .before .before .before .before .before .before .args .lookahead)))))
+returns-2 c = λ tokens. rw (c .before .before .before .before .before .before .before .before .before .before .r2 .given .1) (c .looked2 .ensures tokens _ ∙ ap (looking (not (c .before .before .before .before .before .before .before .before .before .before .before .before .before .args .positive))) (c .before .before .before .restored2 .ensures .0 tokens) ∙ looking-not (c .before .before .before .before .before .before .before .before .before .before .before .before .before .args .positive) (restored (view tokens (c .before .before .before .before .before .before .before .before .before .before .before .before .before .args .scratch .now) (back-to (c .before .before .before .before .before .before .before .before .before .before .r2 .given .0 .0) (c .before .before .before .before .before .before .before .before .before .before .before .before .before .args .position) (c .before .before .before .before .before .before .before .before .before .before .before .before .before .args .lookahead)))))
 
 returns-3 : tie.Need-returns-3
 returns-3 c = λ tokens. rw (c .before .r3 .given .1)

@@ -25,13 +25,13 @@ same-length : tie.Need-same-length
 same-length c = search needs
 
 returns : tie.Need-returns
-returns c = λ tokens. rw (c .before .before .before .before .before .r .given .1) (ap Ok (c .before .before .checkpoint-ok .ensures tokens))
+returns c = λ tokens. rw (c .before .before .before .before .before .r .given .1) (ap Ok (c .before .before .checkpoint-ok .ensures .0 tokens))
 
 same-length-2 : tie.Need-same-length-2
 same-length-2 c = search needs
 
 returns-2 : tie.Need-returns-2
-returns-2 c = λ tokens. rw (c .before .before .before .before .before .r2 .given .1) (ap Err (c .before .before .restored .ensures tokens))
+returns-2 c = λ tokens. rw (c .before .before .before .before .before .r2 .given .1) (ap Err (c .before .before .restored .ensures .0 tokens))
 
 returns-3 : tie.Need-returns-3
 returns-3 c = λ tokens. rw (c .before .r3 .given .1)
