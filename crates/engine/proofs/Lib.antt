@@ -29,6 +29,7 @@ pub mod FordLaws
 pub mod CharacterLaws
 pub mod Plain
 pub mod Recognition
+pub mod EndLaws
 pub mod Matching
 pub mod Slices
 pub mod IndexLaws
@@ -37,3 +38,5 @@ pub mod StateSteps
 pub mod RuleLaws
 pub mod Accepted
 pub mod StackKept
+pub mod FinishLaws
+pub mod RuleEnds

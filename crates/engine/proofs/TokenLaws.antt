@@ -24,12 +24,12 @@ use Rattle.engine.proofs.QueueLaws.{queue-from, tag-at-end, tag-at-star
 abbrev pub token-by : Token → QueueableToken
 token-by t = if eqb (t .kind) 1 then Start (t .partner) (t .position) else End (t .partner) (t .rule) (t .tag) (t .position)
 
-five-ext : {k k′ i i′ p p′ r r′ t t′ : ℕ} → k ≡ k′ → i ≡ i′ → p ≡ p′ → r ≡ r′ → t ≡ t′
+pub five-ext : {k k′ i i′ p p′ r r′ t t′ : ℕ} → k ≡ k′ → i ≡ i′ → p ≡ p′ → r ≡ r′ → t ≡ t′
     → _≡_ {A = Token} (record { kind = k; partner = i; position = p; rule = r; tag = t }) (record { kind = k′; partner = i′; position = p′; rule = r′; tag = t′ })
 five-ext a b c d e = λ x. record { kind = a x; partner = b x; position = c x; rule = d x; tag = e x }
 
 -- What a token stands for gives its numbers back.
-token-back : (t : QueueableToken) → token-by (token-of t) ≡ t
+pub token-back : (t : QueueableToken) → token-by (token-of t) ≡ t
 token-back (Start i p) = refl
 token-back (End i r t p) = refl
 
@@ -128,7 +128,7 @@ unfolding Written
 written-less a n k h w i l = w i (omega arith)
 
 -- one token more, which has its numbers
-written-one : (a : List ℕ) (n : ℕ) → five-at a n ≡ token-of (token-at a n) → Written a n → Written a (n + 1)
+pub written-one : (a : List ℕ) (n : ℕ) → five-at a n ≡ token-of (token-at a n) → Written a n → Written a (n + 1)
 unfolding Written
 written-one a n e w i l = go (decLt i n)
   where
@@ -191,10 +191,10 @@ pushed a n t b h e =
 abbrev with-partner : ℕ → Token → Token
 with-partner v t = record { kind = t .kind; partner = v; position = t .position; rule = t .rule; tag = t .tag }
 
-start-by : (t : Token) → t .kind ≡ 1 → token-by t ≡ Start (t .partner) (t .position)
+pub start-by : (t : Token) → t .kind ≡ 1 → token-by t ≡ Start (t .partner) (t .position)
 start-by t e = rw (eq-eqb (t .kind) 1 e)
 
-end-by : (t : Token) → (t .kind ≡ 1 → ⊥) → token-by t ≡ End (t .partner) (t .rule) (t .tag) (t .position)
+pub end-by : (t : Token) → (t .kind ≡ 1 → ⊥) → token-by t ≡ End (t .partner) (t .rule) (t .tag) (t .position)
 end-by t f = rw (ne-eqb (t .kind) 1 f)
 
 start-again : (t : Token) (v : ℕ) → t .kind ≡ 1 → t ≡ token-of (token-by t) → with-partner v t ≡ token-of (token-by (with-partner v t))

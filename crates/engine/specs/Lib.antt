@@ -22,3 +22,7 @@ pub mod Spine
 pub mod Refusals
 pub mod StackMatch
 pub mod Rule
+pub mod Ends
+pub mod StackMatch
+pub mod Rule
+pub mod Finish

@@ -2,7 +2,9 @@
 pub mod areas;
 pub mod attempts;
 pub mod call_limit_tracker;
+pub mod endings;
 pub mod entry;
+pub mod finish;
 pub mod grammar;
 pub mod node;
 pub mod nullable;
@@ -14,3 +16,4 @@ pub mod stack;
 pub mod stack_match;
 pub mod stack_state;
 pub mod state;
+pub mod terminals;

@@ -1,0 +1,55 @@
+-- In each arm the ending is known.
+use mathlib.Core.Path.{subst}
+use Rattle.engine.specs.Ends.{RuleEndReady}
+use borrow.Author.Needs.{needs}
+use Rattle.engine.proofs.endings.rule_end.Statement.{statement}
+use Rattle.engine.proofs.endings.rule_end.Tie as tie
+
+enum-known-r : tie.Need-enum-known-r
+enum-known-r c = search needs
+
+rule-ok-requires : tie.Need-rule-ok-requires
+rule-ok-requires c κs = subst (RuleEndReady (c .before .before .before .before .before .before .before .args .tokens .now) (c .before .before .before .before .before .before .before .args .scratch .now) (c .before .before .before .before .before .before .before .args .capacity) (c .before .before .before .before .before .before .before .args .index .0)) (c .before .before .before .r .given .1) (c .before .before .before .before .before .before .before .pre)
+
+enum-known-r-2 : tie.Need-enum-known-r-2
+enum-known-r-2 c = search needs
+
+rule-err-requires : tie.Need-rule-err-requires
+rule-err-requires c κs = subst (RuleEndReady (c .before .before .before .before .before .before .args .tokens .now) (c .before .before .before .before .before .before .args .scratch .now) (c .before .before .before .before .before .before .args .capacity) (c .before .before .before .before .before .before .args .index .0)) (c .before .before .r2 .given .1) (c .before .before .before .before .before .before .pre)
+
+enum-known-r-3 : tie.Need-enum-known-r-3
+enum-known-r-3 c = search needs
+
+same-length : tie.Need-same-length
+same-length c = search needs
+
+same-length-2 : tie.Need-same-length-2
+same-length-2 c = search needs
+
+returns : tie.Need-returns
+returns c = λ g h. rw (c .before .before .before .before .before .before .before .before .r .given .1) (c .before .before .before .before .rule-ok .ensures g h)
+
+same-length-3 : tie.Need-same-length-3
+same-length-3 c = search needs
+
+returns-2 : tie.Need-returns-2
+returns-2 c = λ g h. rw (c .before .before .before .before .before .r2 .given .1) (c .before .before .rule-err .ensures g (c .before .before .before .before .before .before .before .before .before .args .tokens .now))
+
+returns-3 : tie.Need-returns-3
+returns-3 c = λ g h. rw (c .before .r3 .given .1)
+
+pub rule-end-spec : {M : Type 1} → statement M
+rule-end-spec =
+    tie.close
+    (tie.spec
+    enum-known-r
+    rule-ok-requires
+    enum-known-r-2
+    rule-err-requires
+    enum-known-r-3
+    same-length
+    same-length-2
+    returns
+    same-length-3
+    returns-2
+    returns-3)

@@ -1,0 +1,18 @@
+-- By the test.
+use mathlib.Core.Path.{sym, _∙_}
+use Rattle.engine.proofs.EndLaws.{if-yes, if-no}
+use borrow.Author.Needs.{needs}
+use Rattle.engine.proofs.terminals.end_of_input.Statement.{statement}
+use Rattle.engine.proofs.terminals.end_of_input.Tie as tie
+
+at-end-requires : tie.Need-at-end-requires
+at-end-requires c κs = search needs
+
+returns : tie.Need-returns
+returns c = λ tokens scratch. if-yes _ _ _ (sym (c .before .at-end .ensures) ∙ c .if1 .taken)
+
+returns-2 : tie.Need-returns-2
+returns-2 c = λ tokens scratch. if-no _ _ _ (sym (c .before .at-end .ensures) ∙ c .if1 .left)
+
+pub end-of-input-spec : {M : Type 1} → statement M
+end-of-input-spec = tie.close (tie.spec at-end-requires returns returns-2)
