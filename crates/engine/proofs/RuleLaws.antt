@@ -198,7 +198,7 @@ module _ (g : Setting) (line r : ℕ) where
       go false true = refl
       go false false = refl
 
-  tracking-then : (due : Bool) (p pi ni prev : ℕ) (m : ParserState) (k : ParserState → Ending ParserState)
+  pub tracking-then : (due : Bool) (p pi ni prev : ℕ) (m : ParserState) (k : ParserState → Ending ParserState)
       → tracking g true due line r p pi ni prev m k ≡ on-ok (tracking g true due line r p pi ni prev m (λ t. Ok t)) k
   tracking-then due p pi ni prev m k = go (due && not (is-atomic (m .atomicity))) (ltb most-attempts (length (n .pos-attempts)) || ltb most-attempts (length (n .neg-attempts)))
     where

@@ -9,7 +9,7 @@ use native.Mathlib.Decide.{decLt}
 use lib.ListN.{length, getD, take, drop, length-drop, length-reverse, List·getD-append}
 use lib.Seq.{take-suc, drop-cons, getD-drop, getD-at}
 use Rattle.matching.specs.declared.span.Span as Code
-use Rattle.matching.specs.Contracts.{matched}
+use Rattle.matching.specs.Answers.{matched}
 use Rattle.matching.specs.Position.{match-string, bytes-of}
 use Rattle.matching.specs.declared.position.BytePosition.{BytePosition}
 use Rattle.matching.specs.declared.position.Matched.{Matched}

@@ -12,7 +12,7 @@ use lib.Dec.{ltb, leb, eqb}
 use borrow.Author.Tests.{le-leb, lt-leb, ltb-false, le-ltb}
 use Rattle.matching.specs.declared.position.Matched.the-variants as Matched
 use Rattle.matching.specs.declared.span.Span as Code
-use Rattle.matching.specs.Contracts.{matched}
+use Rattle.matching.specs.Answers.{matched}
 use Rattle.matching.specs.Position.{match-string, bytes-of}
 use Rattle.matching.specs.declared.position.BytePosition.{BytePosition}
 use Rattle.matching.specs.declared.position.Matched.{Matched}

@@ -23,6 +23,4 @@ pub mod Refusals
 pub mod StackMatch
 pub mod Rule
 pub mod Ends
-pub mod StackMatch
-pub mod Rule
 pub mod Finish

@@ -15,7 +15,7 @@ ghost use mathlib.Core.Option.{none, some};
 ghost use Prim.Native.Nat.{ℕ, _+_, _*_, _≤_, _<_};
 ghost use lib.ListN.{length};
 ghost use lib.Dec.{eqb, ltb};
-ghost use Rattle.matching.specs.Contracts.{matched};
+ghost use Rattle.matching.specs.Answers.{matched};
 ghost use Rattle.engine.specs.Ending.{if_then_else_};
 ghost use Rattle.engine.specs.Pest.{ParserState, set-stack, as-str, normalize-index, normalize-end, slice, all-match, stack-match-pop};
 ghost use Rattle.engine.specs.Areas.{stack-of};

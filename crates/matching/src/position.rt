@@ -2,7 +2,7 @@
 ghost use mathlib.Core.Path.{_≡_};
 ghost use lib.Dec.{eqb};
 ghost use Rattle.matching.specs.Position.{starts-by, fold-case, same-folded, match-string, match-insensitive, match-range, skip, at-end};
-ghost use Rattle.matching.specs.Contracts.{matched};
+ghost use Rattle.matching.specs.Answers.{matched};
 use crate::utf8::Char;
 use crate::utf8::char_at;
 

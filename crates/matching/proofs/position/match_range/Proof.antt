@@ -1,7 +1,7 @@
 use mathlib.Core.Path.{sym, ap, _∙_}
 use native.Mathlib.Omega.{arith}
 use Rattle.matching.specs.Utf8.{within}
-use Rattle.matching.specs.Contracts.{matched}
+use Rattle.matching.specs.Answers.{matched}
 use Rattle.matching.proofs.Lead.{within-is, below, above}
 use Rattle.matching.proofs.Steps.{inside, char-fails, char-moves}
 use borrow.Author.Needs.{needs}

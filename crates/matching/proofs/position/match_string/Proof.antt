@@ -1,7 +1,7 @@
 use mathlib.Core.Path.{sym, ap}
 use native.Mathlib.Omega.{arith}
 use lib.Dec.{eqb}
-use Rattle.matching.specs.Contracts.{matched}
+use Rattle.matching.specs.Answers.{matched}
 use Rattle.matching.proofs.Steps.{string-past, string-is, string-inside}
 use borrow.Author.Needs.{needs}
 use Rattle.matching.proofs.position.match_string.Statement.{statement}

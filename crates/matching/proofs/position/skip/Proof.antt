@@ -3,7 +3,7 @@ use Prim.Native.Nat.{_≤_}
 use native.Mathlib.Omega.{arith}
 use lib.ListN.{length}
 use Rattle.matching.specs.Position.{skip}
-use Rattle.matching.specs.Contracts.{matched}
+use Rattle.matching.specs.Answers.{matched}
 use Rattle.matching.proofs.Characters.{skip-past}
 use Rattle.matching.proofs.Steps.{inside, skip-more, skip-fails, skip-done}
 use borrow.Author.Needs.{needs}
