@@ -102,7 +102,7 @@ ascending-is [] = refl
 ascending-is (x ∷ l) = dedup-sorted x (sort l) ∙ ap (insert x) (ascending-is l)
 
 -- ── The first state ──
-initial-is : (limit : ℕ) → Pest.new limit ≡ pest-of top [] (initial limit)
+pub initial-is : (limit : ℕ) → Pest.new limit ≡ pest-of top [] (initial limit)
 initial-is zero = refl
 initial-is (suc l) = rw (lt-ltb 0 (suc l) (omega arith))
 

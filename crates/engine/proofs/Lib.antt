@@ -40,3 +40,4 @@ pub mod Accepted
 pub mod StackKept
 pub mod FinishLaws
 pub mod RuleEnds
+pub mod Runs

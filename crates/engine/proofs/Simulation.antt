@@ -466,7 +466,7 @@ module _ (g : Setting) where
 
   -- ── Kind 8 ──
   -- pest's queue is as long as the tokens that the reading holds.
-  held-is : (o : Open) (q : Stk) (t : State) → t .outer ≡ length (prefix o) → length (pest-of o q t .queue) ≡ Reading.held t
+  pub held-is : (o : Open) (q : Stk) (t : State) → t .outer ≡ length (prefix o) → length (pest-of o q t .queue) ≡ Reading.held t
   held-is o q t e = omega (arith, length-append (prefix o) (queue-from (t .outer) (t .siblings)), length-queue (t .outer) (t .siblings))
 
   rule-sim : (line r : ℕ) (d : State → Ending State) (md : ParserState → Ending ParserState) → Preserves g d md
