@@ -16,7 +16,7 @@ use Rattle.engine.specs.Forest.{Forest, empty, add, Token, tokens-from, 
 use Rattle.engine.specs.Pest.{QueueableToken, Start, End, with-end, tag-last}
 use Rattle.engine.specs.Areas.{Outside, token-at, queue-of}
 use Rattle.engine.specs.Outcome.{numbers, filled}
-use Rattle.engine.specs.Tokens.{token-of, tokens-of, five-at, put-token, Written, Pushed, Patched, Tagged}
+use Rattle.engine.specs.Tokens.{token-of, tokens-of, five-at, put-token, Written, Pushed, Patched, Tagged, Settled, SettledTo}
 use Rattle.engine.proofs.AreaLaws.{outside-refl, outside-trans, outside-wider, outside-set, outside-set-in}
 use Rattle.engine.proofs.QueueLaws.{queue-from, tag-at-end, tag-at-start}
 
@@ -335,6 +335,55 @@ queue-numbers a (suc n) h w =
 -- The area zeroed behind n tokens is those tokens, then zeros.
 pub tokens-area : (a : List ℕ) (n : ℕ) → n * 5 ≤ length a → Written a n → filled (length a) (take (n * 5) a) ≡ filled (length a) (numbers (tokens-of (queue-of a n)))
 tokens-area a n h w = ap (filled (length a)) (queue-numbers a n h w)
+
+-- ── tokens settled to the numbers of what they stand for ──
+module _ (a : List ℕ) (i : ℕ) (h : i * 5 + 5 ≤ length a) where
+  pub settled-start : getD a (i * 5) 0 ≡ 1 → Settled a i (set (set a (i * 5 + 3) 0) (i * 5 + 4) 0)
+  settled-start e =
+      let b : List ℕ = set a (i * 5 + 3) 0 in
+      record {
+        five = five-ext
+            (getD-set-other b (i * 5 + 4) (i * 5) 0 0 (omega arith) ∙ getD-set-other a (i * 5 + 3) (i * 5) 0 0 (omega arith) ∙ e)
+            (getD-set-other b (i * 5 + 4) (i * 5 + 1) 0 0 (omega arith) ∙ getD-set-other a (i * 5 + 3) (i * 5 + 1) 0 0 (omega arith))
+            (getD-set-other b (i * 5 + 4) (i * 5 + 2) 0 0 (omega arith) ∙ getD-set-other a (i * 5 + 3) (i * 5 + 2) 0 0 (omega arith))
+            (getD-set-other b (i * 5 + 4) (i * 5 + 3) 0 0 (omega arith) ∙ getD-set-same a (i * 5 + 3) 0 0 (omega arith))
+            (getD-set-same b (i * 5 + 4) 0 0 (simp length-set (omega arith)))
+            ∙ sym (ap token-of (start-by (five-at a i) e));
+        others = outside-trans (outside-set-in a (i * 5) (i * 5 + 5) (i * 5 + 3) 0 (omega arith) (omega arith)) (outside-set-in b (i * 5) (i * 5 + 5) (i * 5 + 4) 0 (omega arith) (omega arith));
+      }
+
+  pub settled-end : (getD a (i * 5) 0 ≡ 1 → ⊥) → Settled a i (set a (i * 5) 2)
+  settled-end f = record {
+    five = five-ext (getD-set-same a (i * 5) 2 0 (omega arith))
+        (getD-set-other a (i * 5) (i * 5 + 1) 2 0 (omega arith)) (getD-set-other a (i * 5) (i * 5 + 2) 2 0 (omega arith))
+        (getD-set-other a (i * 5) (i * 5 + 3) 2 0 (omega arith)) (getD-set-other a (i * 5) (i * 5 + 4) 2 0 (omega arith))
+        ∙ sym (ap token-of (end-by (five-at a i) f));
+    others = outside-set-in a (i * 5) (i * 5 + 5) (i * 5) 2 (omega arith) (omega arith);
+  }
+
+pub settled-none : (n : ℕ) (a : List ℕ) → SettledTo 0 n a a
+settled-none n a = record { queue = refl; written = written-none a; others = outside-refl a }
+
+pub settled-more : (i n : ℕ) (a b c : List ℕ) → i < n → SettledTo i n a b → Settled b i c → SettledTo (i + 1) n a c
+settled-more i n a b c h p s =
+    let same : token-at c i ≡ token-at b i = ap token-by (s .five) ∙ token-back (token-at b i) in
+    let five : five-at c i ≡ token-of (token-at c i) = s .five ∙ ap token-of (sym same) in
+    record {
+      queue = token-changed b c i (s .others) n h
+          ∙ ap (set (queue-of b n) i) (same ∙ sym (queue-getD b n i (Start 0 0) h))
+          ∙ set-getD (queue-of b n) i (Start 0 0)
+          ∙ p .queue;
+      written = written-one c i five (written-changed b c i (s .others) i five (p .written));
+      others = outside-trans (p .others) (outside-wider (omega arith) (omega arith) (s .others));
+    }
+
+pub settled-all : (i n : ℕ) (a b : List ℕ) → i ≤ n → n ≤ i → SettledTo i n a b → SettledTo n n a b
+settled-all i n a b h g p = let e : i ≡ n = omega arith in record { queue = p .queue; written = subst (Written b) e (p .written); others = p .others }
+
+pub settled-area : (n : ℕ) (a b c : List ℕ) → n * 5 ≤ length a → SettledTo n n a b → c ≡ filled (length b) (take (n * 5) b) → c ≡ filled (length a) (numbers (tokens-of (queue-of a n)))
+settled-area n a b c h p e =
+    e ∙ tokens-area b n (omega (arith, p .others .size)) (p .written)
+    ∙ ap₂ (λ (k : ℕ) (q : List QueueableToken). filled k (numbers (tokens-of q))) (p .others .size) (p .queue)
 
 -- pest's queue of a forest stands for the forest's tokens.
 pub queue-tokens : (n : ℕ) (f : Forest) → tokens-of (queue-from n f) ≡ tokens-from n f

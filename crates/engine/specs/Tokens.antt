@@ -58,3 +58,14 @@ pub record Tagged (a : List ℕ) (n u : ℕ) (b : List ℕ) : Type 0 where
   pub queue : queue-of b n ≡ tag-last u (queue-of a n)
   pub written : Written a n → Written b n
   pub others : Outside ((n - 1) * 5) (n * 5) a b
+
+-- b is a, where the token at index i has the very numbers of the token that it stands for.
+pub record Settled (a : List ℕ) (i : ℕ) (b : List ℕ) : Type 0 where
+  pub five : five-at b i ≡ token-of (token-at a i)
+  pub others : Outside (i * 5) (i * 5 + 5) a b
+
+-- The same for the first i of n tokens.
+pub record SettledTo (i n : ℕ) (a b : List ℕ) : Type 0 where
+  pub queue : queue-of b n ≡ queue-of a n
+  pub written : Written b i
+  pub others : Outside 0 (n * 5) a b

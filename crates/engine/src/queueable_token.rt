@@ -7,8 +7,9 @@ ghost use mathlib.Core.List.{List, []};
 ghost use Prim.Native.Nat.{ℕ, _+_, _*_, _≤_};
 ghost use lib.ListN.{length, take};
 ghost use Rattle.engine.specs.Pest.{Start, End};
-ghost use Rattle.engine.specs.Outcome.{filled};
-ghost use Rattle.engine.specs.Tokens.{put-token, Pushed, Patched, Tagged};
+ghost use Rattle.engine.specs.Areas.{queue-of};
+ghost use Rattle.engine.specs.Outcome.{filled, numbers};
+ghost use Rattle.engine.specs.Tokens.{tokens-of, put-token, Pushed, Patched, Tagged, Settled, SettledTo};
 
 // Writes the token at index i.
 fn put(tokens: &mut [u32], i: usize, kind: u32, partner: u32, position: u32, rule: u32, tag: u32)
@@ -87,4 +88,41 @@ pub fn clear(area: &mut [u32])
     ensures { λ _. ⌜ now (area .exit) ≡ filled (length (now (area .entry))) [] ⌝ }
 {
     zero_from(area, 0);
+}
+
+// The numbers of a token that the queue does not speak of: a Start's rule and tag, and the kind of an End.
+fn settle_at(tokens: &mut [u32], i: usize)
+    requires { ⌜ i * 5 + 5 ≤ length (now tokens) ⌝ }
+    ensures { λ _. ⌜ Settled (now (tokens .entry)) i (now (tokens .exit)) ⌝ }
+{
+    let at = i * 5;
+    if tokens[at] == 1 {
+        tokens[at + 3] = 0;
+        tokens[at + 4] = 0;
+    } else {
+        tokens[at] = 2;
+    }
+}
+
+// The same for the first n tokens.
+fn settle(tokens: &mut [u32], n: usize)
+    requires { ⌜ n * 5 ≤ length (now tokens) ⌝ }
+    ensures { λ _. ⌜ SettledTo n n (now (tokens .entry)) (now (tokens .exit)) ⌝ }
+{
+    let mut i = 0;
+    while i < n {
+        settle_at(tokens, i);
+        i += 1;
+    }
+}
+
+// "tokens, then zeros": the area at the end of a run that gave 0 with n tokens, whatever stood in it before the run.
+pub fn write_tokens(tokens: &mut [u32], n: TokenIndex)
+    requires { ⌜ n .0 * 5 ≤ length (now tokens) ⌝ }
+    ensures { λ _. ⌜ now (tokens .exit) ≡ filled (length (now (tokens .entry))) (numbers (tokens-of (queue-of (now (tokens .entry)) (n .0)))) ⌝ }
+{
+    let count = n.0;
+    let end = count * 5;
+    settle(tokens, count);
+    zero_from(tokens, end);
 }
