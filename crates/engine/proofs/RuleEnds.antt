@@ -43,20 +43,25 @@ module _ (g : Setting) (due : Bool) (line r p : ℕ) (n : Noted) (m : ParserStat
       go true true e = refl
       go true false e = kept e (ltb most-attempts (length (t .pos-attempts)) || ltb most-attempts (length (t .neg-attempts)))
 
-  -- ── a rule, after its tracking ──
-  pub after-ok : (i : ℕ) (x e : Ending ParserState) → due ≡ is-negative (m .lookahead) → x ≡ tracking g true due line r p (n .positives) (n .negatives) (n .total) m (λ t. Ok t)
-      → e ≡ on-ok x (λ t. close-rule g true line r i t) → e ≡ rule-end g true line r p i (n .positives) (n .negatives) (n .total) (Ok m)
-  after-ok i x e d h k =
-      k ∙ ap (λ (y : Ending ParserState). on-ok y (λ t. close-rule g true line r i t)) h
-      ∙ sym (tracking-then g line r due p (n .positives) (n .negatives) (n .total) m (λ t. close-rule g true line r i t))
-      ∙ ap (λ (b : Bool). tracking g true b line r p (n .positives) (n .negatives) (n .total) m (λ t. close-rule g true line r i t)) d
+  -- ── a rule, after its tracking, which the code answered with y, known to be z ──
+  module _ (tokens b : List ℕ) (y z : Code·ending.Ending) (same : y ≡ z)
+      (h : view-end tokens b y ≡ tracking g true due line r p (n .positives) (n .negatives) (n .total) m (λ (t : ParserState). Ok t)) where
+    then-on : (k : ParserState → Ending ParserState) → on-ok (view-end tokens b z) k ≡ tracking g true due line r p (n .positives) (n .negatives) (n .total) m k
+    then-on k =
+        ap (λ (x : Ending ParserState). on-ok x k) (sym (ap (view-end tokens b) same) ∙ h)
+        ∙ sym (tracking-then g line r due p (n .positives) (n .negatives) (n .total) m k)
 
-  pub after-err : (i : ℕ) (x e : Ending ParserState) → due ≡ not (is-negative (m .lookahead)) → x ≡ tracking g true due line r p (n .positives) (n .negatives) (n .total) m (λ t. Ok t)
-      → e ≡ on-ok x (λ t. Err (dropped i t)) → e ≡ rule-end g true line r p i (n .positives) (n .negatives) (n .total) (Err m)
-  after-err i x e d h k =
-      k ∙ ap (λ (y : Ending ParserState). on-ok y (λ t. Err (dropped i t))) h
-      ∙ sym (tracking-then g line r due p (n .positives) (n .negatives) (n .total) m (λ t. Err (dropped i t)))
-      ∙ ap (λ (b : Bool). tracking g true b line r p (n .positives) (n .negatives) (n .total) m (λ t. Err (dropped i t))) d
+    pub after-ok : (i : ℕ) (e : Ending ParserState) → due ≡ is-negative (m .lookahead) → e ≡ on-ok (view-end tokens b z) (λ t. close-rule g true line r i t)
+        → e ≡ rule-end g true line r p i (n .positives) (n .negatives) (n .total) (Ok m)
+    after-ok i e d q =
+        q ∙ then-on (λ t. close-rule g true line r i t)
+        ∙ ap (λ (c : Bool). tracking g true c line r p (n .positives) (n .negatives) (n .total) m (λ t. close-rule g true line r i t)) d
+
+    pub after-err : (i : ℕ) (e : Ending ParserState) → due ≡ not (is-negative (m .lookahead)) → e ≡ on-ok (view-end tokens b z) (λ t. Err (dropped i t))
+        → e ≡ rule-end g true line r p i (n .positives) (n .negatives) (n .total) (Err m)
+    after-err i e d q =
+        q ∙ then-on (λ t. Err (dropped i t))
+        ∙ ap (λ (c : Bool). tracking g true c line r p (n .positives) (n .negatives) (n .total) m (λ t. Err (dropped i t))) d
 
 -- Tracking does not look at the setting, so that any will do.
 any-setting : Setting

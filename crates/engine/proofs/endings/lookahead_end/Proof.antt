@@ -13,7 +13,7 @@ enum-known-r : tie.Need-enum-known-r
 enum-known-r c = search needs
 
 restored-requires : tie.Need-restored-requires
-restored-requires c κs = back-ready (c .before .before .before .before .before .before .before .before .before .args .scratch .now) (c .before .before .before .before .before .before .r .given .0 .0) (c .before .before .before .before .before .before .before .before .before .args .position) (c .before .before .before .before .before .before .before .before .before .args .lookahead) (subst (EndReady (c .before .before .before .before .before .before .before .before .before .args .scratch .now) 0) (c .before .before .before .before .before .before .r .given .1) (c .before .before .before .before .before .before .before .before .before .pre) .0)
+restored-requires c κs = let i = c .before .before .before .before .before .before .before .before .before in let t = c .before .before .before .before .before .before .r .given in back-ready (i .args .scratch .now) (t .0 .0) (i .args .position) (i .args .lookahead) (subst (EndReady (i .args .scratch .now) 0) (t .1) (i .pre) .0)
 
 looked-requires : tie.Need-looked-requires
 looked-requires c κs = search needs
@@ -22,7 +22,7 @@ enum-known-r-2 : tie.Need-enum-known-r-2
 enum-known-r-2 c = search needs
 
 restored-requires-2 : tie.Need-restored-requires-2
-restored-requires-2 c κs = back-ready (c .before .before .before .before .before .before .before .before .before .args .scratch .now) (c .before .before .before .before .before .before .r2 .given .0 .0) (c .before .before .before .before .before .before .before .before .before .args .position) (c .before .before .before .before .before .before .before .before .before .args .lookahead) (subst (EndReady (c .before .before .before .before .before .before .before .before .before .args .scratch .now) 0) (c .before .before .before .before .before .before .r2 .given .1) (c .before .before .before .before .before .before .before .before .before .pre) .0)
+restored-requires-2 c κs = let i = c .before .before .before .before .before .before .before .before .before in let t = c .before .before .before .before .before .before .r2 .given in back-ready (i .args .scratch .now) (t .0 .0) (i .args .position) (i .args .lookahead) (subst (EndReady (i .args .scratch .now) 0) (t .1) (i .pre) .0)
 
 looked-requires-2 : tie.Need-looked-requires-2
 looked-requires-2 c κs = search needs
@@ -34,13 +34,13 @@ same-length : tie.Need-same-length
 same-length c = search needs
 
 returns : tie.Need-returns
-returns c = λ tokens. rw (c .before .before .before .before .before .before .before .before .before .before .r .given .1) (c .looked .ensures tokens _ ∙ ap (looking (c .before .before .before .before .before .before .before .before .before .before .before .before .before .args .positive)) (c .before .before .before .restored .ensures .0 tokens))
+returns c = let i = c .before .before .before .before .before .before .before .before .before .before .before .before .before in let t = c .before .before .before .before .before .before .before .before .before .before .r .given in λ tokens. rw (t .1) (c .looked .ensures tokens _ ∙ ap (looking (i .args .positive)) (c .before .before .before .restored .ensures .0 tokens))
 
 same-length-2 : tie.Need-same-length-2
 same-length-2 c = search needs
 
 returns-2 : tie.Need-returns-2
-returns-2 c = λ tokens. rw (c .before .before .before .before .before .before .before .before .before .before .r2 .given .1) (c .looked2 .ensures tokens _ ∙ ap (looking (not (c .before .before .before .before .before .before .before .before .before .before .before .before .before .args .positive))) (c .before .before .before .restored2 .ensures .0 tokens) ∙ looking-not (c .before .before .before .before .before .before .before .before .before .before .before .before .before .args .positive) (restored (view tokens (c .before .before .before .before .before .before .before .before .before .before .before .before .before .args .scratch .now) (back-to (c .before .before .before .before .before .before .before .before .before .before .r2 .given .0 .0) (c .before .before .before .before .before .before .before .before .before .before .before .before .before .args .position) (c .before .before .before .before .before .before .before .before .before .before .before .before .before .args .lookahead)))))
+returns-2 c = let i = c .before .before .before .before .before .before .before .before .before .before .before .before .before in let t = c .before .before .before .before .before .before .before .before .before .before .r2 .given in λ tokens. rw (t .1) (c .looked2 .ensures tokens _ ∙ ap (looking (not (i .args .positive))) (c .before .before .before .restored2 .ensures .0 tokens) ∙ looking-not (i .args .positive) (restored (view tokens (i .args .scratch .now) (back-to (t .0 .0) (i .args .position) (i .args .lookahead)))))
 
 returns-3 : tie.Need-returns-3
 returns-3 c = λ tokens. rw (c .before .r3 .given .1)

@@ -9,13 +9,13 @@ enum-known-r : tie.Need-enum-known-r
 enum-known-r c = search needs
 
 rule-ok-requires : tie.Need-rule-ok-requires
-rule-ok-requires c κs = subst (RuleEndReady (c .before .before .before .before .before .before .before .args .tokens .now) (c .before .before .before .before .before .before .before .args .scratch .now) (c .before .before .before .before .before .before .before .args .capacity) (c .before .before .before .before .before .before .before .args .index .0)) (c .before .before .before .r .given .1) (c .before .before .before .before .before .before .before .pre)
+rule-ok-requires c κs = let i = c .before .before .before .before .before .before .before in subst (RuleEndReady (i .args .tokens .now) (i .args .scratch .now) (i .args .capacity) (i .args .index .0)) (c .before .before .before .r .given .1) (i .pre)
 
 enum-known-r-2 : tie.Need-enum-known-r-2
 enum-known-r-2 c = search needs
 
 rule-err-requires : tie.Need-rule-err-requires
-rule-err-requires c κs = subst (RuleEndReady (c .before .before .before .before .before .before .args .tokens .now) (c .before .before .before .before .before .before .args .scratch .now) (c .before .before .before .before .before .before .args .capacity) (c .before .before .before .before .before .before .args .index .0)) (c .before .before .r2 .given .1) (c .before .before .before .before .before .before .pre)
+rule-err-requires c κs = let i = c .before .before .before .before .before .before in subst (RuleEndReady (i .args .tokens .now) (i .args .scratch .now) (i .args .capacity) (i .args .index .0)) (c .before .before .r2 .given .1) (i .pre)
 
 enum-known-r-3 : tie.Need-enum-known-r-3
 enum-known-r-3 c = search needs

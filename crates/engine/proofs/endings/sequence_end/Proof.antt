@@ -12,13 +12,13 @@ enum-known-r : tie.Need-enum-known-r
 enum-known-r c = search needs
 
 checkpoint-ok-requires : tie.Need-checkpoint-ok-requires
-checkpoint-ok-requires c κs = subst (EndReady (c .before .before .before .before .before .args .scratch .now) (c .before .before .before .before .before .args .queue .0)) (c .before .before .r .given .1) (c .before .before .before .before .before .pre) .0
+checkpoint-ok-requires c κs = let i = c .before .before .before .before .before in subst (EndReady (i .args .scratch .now) (i .args .queue .0)) (c .before .before .r .given .1) (i .pre) .0
 
 enum-known-r-2 : tie.Need-enum-known-r-2
 enum-known-r-2 c = search needs
 
 restored-requires : tie.Need-restored-requires
-restored-requires c κs = cut-ready (c .before .before .before .before .before .before .before .before .args .scratch .now) (c .before .before .before .before .before .r2 .given .0 .0) (c .before .before .before .before .before .before .before .before .args .position) (c .before .before .before .before .before .before .before .before .args .queue) (subst (EndReady (c .before .before .before .before .before .before .before .before .args .scratch .now) (c .before .before .before .before .before .before .before .before .args .queue .0)) (c .before .before .before .before .before .r2 .given .1) (c .before .before .before .before .before .before .before .before .pre) .0)
+restored-requires c κs = let i = c .before .before .before .before .before .before .before .before in let t = c .before .before .before .before .before .r2 .given in cut-ready (i .args .scratch .now) (t .0 .0) (i .args .position) (i .args .queue) (subst (EndReady (i .args .scratch .now) (i .args .queue .0)) (t .1) (i .pre) .0)
 
 enum-known-r-3 : tie.Need-enum-known-r-3
 enum-known-r-3 c = search needs
@@ -33,7 +33,7 @@ same-length-2 : tie.Need-same-length-2
 same-length-2 c = search needs
 
 returns-2 : tie.Need-returns-2
-returns-2 c = λ tokens. rw (c .before .before .before .before .before .before .before .before .r2 .given .1) (ap Err (c .before .before .restored .ensures .0 tokens ∙ ap restored (cut-view tokens (c .before .before .before .before .before .before .before .before .before .before .before .args .scratch .now) (c .before .before .before .before .before .before .before .before .r2 .given .0 .0) (c .before .before .before .before .before .before .before .before .before .before .before .args .position) (c .before .before .before .before .before .before .before .before .before .before .before .args .queue) (subst (EndReady (c .before .before .before .before .before .before .before .before .before .before .before .args .scratch .now) (c .before .before .before .before .before .before .before .before .before .before .before .args .queue .0)) (c .before .before .before .before .before .before .before .before .r2 .given .1) (c .before .before .before .before .before .before .before .before .before .before .before .pre) .1))))
+returns-2 c = let i = c .before .before .before .before .before .before .before .before .before .before .before in let t = c .before .before .before .before .before .before .before .before .r2 .given in λ tokens. rw (t .1) (ap Err (c .before .before .restored .ensures .0 tokens ∙ ap restored (cut-view tokens (i .args .scratch .now) (t .0 .0) (i .args .position) (i .args .queue) (subst (EndReady (i .args .scratch .now) (i .args .queue .0)) (t .1) (i .pre) .1))))
 
 returns-3 : tie.Need-returns-3
 returns-3 c = λ tokens. rw (c .before .r3 .given .1)

@@ -31,10 +31,10 @@ moved-requires-2 : tie.Need-moved-requires-2
 moved-requires-2 c κs = search needs
 
 returns : tie.Need-returns
-returns c = λ tokens scratch. c .moved .ensures tokens scratch ∙ literal-folded (c .before .before .before .before .before .before .before .args .text .now) (c .before .before .before .before .before .before .before .args .literals .now) (c .before .before .before .before .before .before .before .args .offset) (c .before .before .before .before .before .before .before .args .size) (c .before .before .before .before .before .before .before .args .s .position .0) (c .before .match-insensitive .result) (view tokens scratch (c .before .before .before .before .before .before .before .args .s)) (c .before .before .before .before .before .before .before .args .insensitive) (c .before .before .if1 .taken) (c .before .match-insensitive .ensures)
+returns c = let i = c .before .before .before .before .before .before .before in λ tokens scratch. c .moved .ensures tokens scratch ∙ literal-folded (i .args .text .now) (i .args .literals .now) (i .args .offset) (i .args .size) (i .args .s .position .0) (c .before .match-insensitive .result) (view tokens scratch (i .args .s)) (i .args .insensitive) (c .before .before .if1 .taken) (c .before .match-insensitive .ensures)
 
 returns-2 : tie.Need-returns-2
-returns-2 c = λ tokens scratch. c .moved2 .ensures tokens scratch ∙ literal-exact (c .before .before .before .before .before .before .before .args .text .now) (c .before .before .before .before .before .before .before .args .literals .now) (c .before .before .before .before .before .before .before .args .offset) (c .before .before .before .before .before .before .before .args .size) (c .before .before .before .before .before .before .before .args .s .position .0) (c .before .match-string .result) (view tokens scratch (c .before .before .before .before .before .before .before .args .s)) (c .before .before .before .before .before .before .before .args .insensitive) (c .before .before .if1 .left) (c .before .match-string .ensures)
+returns-2 c = let i = c .before .before .before .before .before .before .before in λ tokens scratch. c .moved2 .ensures tokens scratch ∙ literal-exact (i .args .text .now) (i .args .literals .now) (i .args .offset) (i .args .size) (i .args .s .position .0) (c .before .match-string .result) (view tokens scratch (i .args .s)) (i .args .insensitive) (c .before .before .if1 .left) (c .before .match-string .ensures)
 
 pub literal-spec : {M : Type 1} → statement M
 literal-spec =

@@ -14,7 +14,7 @@ moved-requires : tie.Need-moved-requires
 moved-requires c κs = search needs
 
 returns : tie.Need-returns
-returns c = λ tokens scratch. c .moved .ensures tokens scratch ∙ moved-by (Position.match-range (c .before .before .before .before .args .text .now) (c .before .before .before .before .args .low) (c .before .before .before .before .args .high) (c .before .before .before .before .args .s .position .0)) (c .before .match-range .result) (view tokens scratch (c .before .before .before .before .args .s)) (c .before .match-range .ensures)
+returns c = let i = c .before .before .before .before in λ tokens scratch. c .moved .ensures tokens scratch ∙ moved-by (Position.match-range (i .args .text .now) (i .args .low) (i .args .high) (i .args .s .position .0)) (c .before .match-range .result) (view tokens scratch (i .args .s)) (c .before .match-range .ensures)
 
 pub range-spec : {M : Type 1} → statement M
 range-spec = tie.close (tie.spec match-range-requires moved-requires returns)

@@ -14,7 +14,7 @@ moved-requires : tie.Need-moved-requires
 moved-requires c κs = search needs
 
 returns : tie.Need-returns
-returns c = λ tokens scratch. c .moved .ensures tokens scratch ∙ moved-by (Position.skip (c .before .before .before .before .args .text .now) (c .before .before .before .before .args .n) (c .before .before .before .before .args .s .position .0)) (c .before .skip .result) (view tokens scratch (c .before .before .before .before .args .s)) (c .before .skip .ensures)
+returns c = let i = c .before .before .before .before in λ tokens scratch. c .moved .ensures tokens scratch ∙ moved-by (Position.skip (i .args .text .now) (i .args .n) (i .args .s .position .0)) (c .before .skip .result) (view tokens scratch (i .args .s)) (c .before .skip .ensures)
 
 pub skip-spec : {M : Type 1} → statement M
 skip-spec = tie.close (tie.spec skip-requires moved-requires returns)
