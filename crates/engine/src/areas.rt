@@ -26,7 +26,7 @@ pub struct Pair {
 }
 
 // The pair at an index of the region.
-pub fn pair_at(area: &[u32], region: usize, index: usize) -> Pair
+pub(crate) fn pair_at(area: &[u32], region: usize, index: usize) -> Pair
     requires { ⌜ region + index * 2 + 2 ≤ length (now area) ⌝ }
     ensures { λ r. ⌜ r ≡ pair (now (area .entry)) (region + index * 2) ⌝ }
 {
@@ -39,7 +39,7 @@ pub fn pair_at(area: &[u32], region: usize, index: usize) -> Pair
     }
 }
 
-pub fn put_pair(area: &mut [u32], region: usize, index: usize, x: u32, y: u32)
+pub(crate) fn put_pair(area: &mut [u32], region: usize, index: usize, x: u32, y: u32)
     requires { ⌜ region + index * 2 + 2 ≤ length (now area) ⌝ }
     ensures { λ _. ⌜ now (area .exit) ≡ put (now (area .entry)) (region + index * 2) x y ⌝ }
 {
@@ -49,7 +49,7 @@ pub fn put_pair(area: &mut [u32], region: usize, index: usize, x: u32, y: u32)
 }
 
 // Copies the pair at an index of one region to an index of another.
-pub fn copy_pair(area: &mut [u32], region: usize, to: usize, source: usize, from: usize)
+pub(crate) fn copy_pair(area: &mut [u32], region: usize, to: usize, source: usize, from: usize)
     requires { ⌜ (region + to * 2 + 2 ≤ length (now area)) × (source + from * 2 + 2 ≤ length (now area)) ⌝ }
     ensures { λ _. ⌜ now (area .exit) ≡ copied (now (area .entry)) (region + to * 2) (source + from * 2) ⌝ }
 {

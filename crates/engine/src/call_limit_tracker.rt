@@ -89,7 +89,7 @@ fn by_limits(t: CallLimitTracker, counted: bool, room: bool) -> Admitted
 }
 
 // `enter`, by value: "A cause once set refuses every later entry."
-pub fn entered(t: CallLimitTracker, counted: bool, room: bool) -> Admitted
+pub(crate) fn entered(t: CallLimitTracker, counted: bool, room: bool) -> Admitted
     ensures { λ r. ⌜ entered-of r ≡ enter room counted (tracker-of t) ⌝ }
 {
     let reached = t.reached;

@@ -26,7 +26,7 @@ ghost use Rattle.engine.specs.Ends.{EndReady, PushEndReady, RuleOkReady,
 ghost use Rattle.engine.specs.Rule.{Tracking};
 
 // On Err, position and stack return, and the queue is cut to its length at the start.
-pub fn sequence_end(
+pub(crate) fn sequence_end(
     scratch: &mut [u32],
     position: BytePosition,
     queue: TokenIndex,
@@ -50,7 +50,7 @@ pub fn sequence_end(
 }
 
 // On Err, the stack returns.
-pub fn restore_on_err_end(scratch: &mut [u32], r: Ending) -> Ending
+pub(crate) fn restore_on_err_end(scratch: &mut [u32], r: Ending) -> Ending
     requires { ⌜ EndReady (now scratch) 0 r ⌝ }
     ensures { λ e. ⌜ ((tokens : List ℕ) → view-end tokens (now (scratch .exit)) e ≡ Pest.restore-on-err-end (view-end tokens (now (scratch .entry)) r)) ⌝ }
 {
@@ -62,7 +62,7 @@ pub fn restore_on_err_end(scratch: &mut [u32], r: Ending) -> Ending
 }
 
 // An Err is forgiven, unless it comes with a limit cause.
-pub fn forgiven(t: ParserState) -> Ending
+pub(crate) fn forgiven(t: ParserState) -> Ending
     ensures { λ e. ⌜ ((tokens scratch : List ℕ) → view-end tokens scratch e ≡ Pest.optional (Model.Err (view tokens scratch t))) ⌝ }
 {
     if limit_reached(t) {
@@ -72,7 +72,7 @@ pub fn forgiven(t: ParserState) -> Ending
     }
 }
 
-pub fn optional_end(r: Ending) -> Ending
+pub(crate) fn optional_end(r: Ending) -> Ending
     ensures { λ e. ⌜ ((tokens scratch : List ℕ) → view-end tokens scratch e ≡ Pest.optional (view-end tokens scratch r)) ⌝ }
 {
     match r {
@@ -96,7 +96,7 @@ fn looked(good: bool, t: ParserState) -> Ending
 }
 
 // Position, lookahead and stack return, whatever the body answered.
-pub fn lookahead_end(
+pub(crate) fn lookahead_end(
     scratch: &mut [u32],
     positive: bool,
     lookahead: Lookahead,
@@ -128,7 +128,7 @@ pub fn lookahead_end(
 }
 
 // The atomicity is the one before.
-pub fn atomic_end(atomicity: Atomicity, r: Ending) -> Ending
+pub(crate) fn atomic_end(atomicity: Atomicity, r: Ending) -> Ending
     ensures { λ e. ⌜ ((tokens scratch : List ℕ) → view-end tokens scratch e ≡ atomic-back atomicity (view-end tokens scratch r)) ⌝ }
 {
     match r {
@@ -145,7 +145,7 @@ pub fn atomic_end(atomicity: Atomicity, r: Ending) -> Ending
 }
 
 // Kind 14, after its line: "Push adds the span on Ok."
-pub fn push_end(scratch: &mut [u32], line: u32, start: BytePosition, r: Ending) -> Ending
+pub(crate) fn push_end(scratch: &mut [u32], line: u32, start: BytePosition, r: Ending) -> Ending
     requires { ⌜ PushEndReady (now scratch) start r ⌝ }
     ensures { λ e. ⌜ ((text tokens : List ℕ) → view-end tokens (now (scratch .exit)) e ≡ Pest.push-end text true line (start .0) (view-end tokens (now (scratch .entry)) r)) ⌝ }
 {
@@ -203,7 +203,7 @@ fn rule_err(
 }
 
 // Kind 8, after its line, from what it noted before: `index` is the place of its Start.
-pub fn rule_end(
+pub(crate) fn rule_end(
     tokens: &mut [u32],
     scratch: &mut [u32],
     capacity: usize,

@@ -18,7 +18,7 @@ pub enum Entry {
 }
 
 // `depth`: how many more calls may be open.
-pub fn enter(s: ParserState, counted: bool, depth: usize) -> Entry
+pub(crate) fn enter(s: ParserState, counted: bool, depth: usize) -> Entry
     ensures { λ r. ⌜ ((tokens scratch : List ℕ) → view-entry tokens scratch r ≡ entering (ltb 0 depth) counted (view tokens scratch s)) ⌝ }
 {
     let t = s.tracker;
@@ -30,7 +30,7 @@ pub fn enter(s: ParserState, counted: bool, depth: usize) -> Entry
 }
 
 // Whether a limit cause is set.
-pub fn limit_reached(s: ParserState) -> bool
+pub(crate) fn limit_reached(s: ParserState) -> bool
     ensures { λ r. ⌜ ((tokens scratch : List ℕ) → r ≡ Pest.limit-reached (view tokens scratch s)) ⌝ }
 {
     let t = s.tracker;

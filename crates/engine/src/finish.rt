@@ -34,7 +34,7 @@ fn settle_all(tokens: &mut [u32], n: usize)
 }
 
 // The numbers of the first n tokens, then zeros.
-pub fn finish_tokens(tokens: &mut [u32], n: usize)
+pub(crate) fn finish_tokens(tokens: &mut [u32], n: usize)
     requires { ⌜ n * 5 ≤ length (now tokens) ⌝ }
     ensures { λ _. ⌜ now (tokens .exit) ≡ filled (length (now (tokens .entry))) (numbers (tokens-of (queue-of (now (tokens .entry)) n))) ⌝ }
 {

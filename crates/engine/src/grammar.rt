@@ -179,7 +179,7 @@ fn fields_fit(nodes: &[i32], literals: &[u8], line: usize) -> bool
 }
 
 // Whether the line stands in the table.
-pub fn line_fits(nodes: &[i32], literals: &[u8], line: usize) -> bool
+pub(crate) fn line_fits(nodes: &[i32], literals: &[u8], line: usize) -> bool
     requires { ⌜ (1 ≤ line) × (line * 4 ≤ length (now nodes)) ⌝ }
     requires { ⌜ is-utf8 (now literals) ≡ true ⌝ }
     ensures { λ r. ⌜ r ≡ line-fits (now (nodes .entry)) (now (literals .entry)) line ⌝ }
@@ -208,7 +208,7 @@ fn first_misfit(nodes: &[i32], literals: &[u8], count: usize) -> Fault
 }
 
 // Test 5: 0 where the nodes are not 1 to 4,096 fours, else the first line against the table.
-pub fn misfit(nodes: &[i32], literals: &[u8]) -> Fault
+pub(crate) fn misfit(nodes: &[i32], literals: &[u8]) -> Fault
     requires { ⌜ is-utf8 (now literals) ≡ true ⌝ }
     ensures { λ r. ⌜ r ≡ fault-of (misfit (now (nodes .entry)) (now (literals .entry))) ⌝ }
 {
@@ -247,7 +247,7 @@ fn later_refusal(text: &[u8], depth: u32, report: usize, scratch: usize) -> Refu
 }
 
 // The tests of a run, 4 to 9, in order. Only where all pass is a run started.
-pub fn refusal(
+pub(crate) fn refusal(
     nodes: &[i32],
     literals: &[u8],
     text: &[u8],

@@ -35,7 +35,7 @@ fn natural_of(x: i32) -> usize
 }
 
 // A field with its sign.
-pub fn field_at(nodes: &[i32], i: usize) -> Field
+pub(crate) fn field_at(nodes: &[i32], i: usize) -> Field
     requires { ⌜ i < length (now nodes) ⌝ }
     ensures { λ r. ⌜ r ≡ field-of (getD (now (nodes .entry)) i (pos 0)) ⌝ }
 {
@@ -48,7 +48,7 @@ pub fn field_at(nodes: &[i32], i: usize) -> Field
 }
 
 // The line, numbered from 1.
-pub fn line_at(nodes: &[i32], line: usize) -> Line
+pub(crate) fn line_at(nodes: &[i32], line: usize) -> Line
     requires { ⌜ (1 ≤ line) × (line * 4 ≤ length (now nodes)) ⌝ }
     ensures { λ r. ⌜ r ≡ line-of (node-at (now (nodes .entry)) line) ⌝ }
 {
@@ -65,7 +65,7 @@ pub fn line_at(nodes: &[i32], line: usize) -> Line
 }
 
 // Fields a and b of a line of kind 16 as they are.
-pub fn ends_at(nodes: &[i32], line: usize) -> Ends
+pub(crate) fn ends_at(nodes: &[i32], line: usize) -> Ends
     requires { ⌜ (1 ≤ line) × (line * 4 ≤ length (now nodes)) ⌝ }
     ensures { λ r. ⌜ r ≡ ends-of (node-at (now (nodes .entry)) line) ⌝ }
 {
@@ -78,7 +78,7 @@ pub fn ends_at(nodes: &[i32], line: usize) -> Ends
 }
 
 // What a table of twenty rows, one for each kind, says of a kind.
-pub fn row_of(rows: &[bool; 20], kind: usize) -> bool
+pub(crate) fn row_of(rows: &[bool; 20], kind: usize) -> bool
     requires { ⌜ length (now rows) ≡ 20 ⌝ }
     ensures { λ r. ⌜ r ≡ row (now (rows .entry)) false (pos kind) ⌝ }
 {

@@ -146,7 +146,7 @@ fn still_repeat_in(nodes: &[i32], flags: &mut [bool]) -> Fault
 }
 
 // The first repeat whose body may stand still.
-pub fn still_repeat(nodes: &[i32]) -> Fault
+pub(crate) fn still_repeat(nodes: &[i32]) -> Fault
     requires { ⌜ length (now nodes) ≤ 16384 ⌝ }
     ensures { λ r. ⌜ r ≡ fault-of (still-repeat (now (nodes .entry))) ⌝ }
 {

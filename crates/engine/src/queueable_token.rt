@@ -25,7 +25,7 @@ fn put(tokens: &mut [u32], i: usize, kind: u32, partner: u32, position: u32, rul
 }
 
 // Pushes a Start whose partner is not known yet, onto a queue of n tokens.
-pub fn push_start(tokens: &mut [u32], n: TokenIndex, p: BytePosition)
+pub(crate) fn push_start(tokens: &mut [u32], n: TokenIndex, p: BytePosition)
     requires { ⌜ (n .0 * 5 + 5 ≤ length (now tokens)) × (p .0 ≤ 65535) ⌝ }
     ensures { λ _. ⌜ Pushed (now (tokens .entry)) (n .0) (Start 0 (p .0)) (now (tokens .exit)) ⌝ }
 {
@@ -34,7 +34,7 @@ pub fn push_start(tokens: &mut [u32], n: TokenIndex, p: BytePosition)
 }
 
 // Pushes an End without a tag, onto a queue of n tokens.
-pub fn push_end(tokens: &mut [u32], n: TokenIndex, partner: TokenIndex, rule: u32, p: BytePosition)
+pub(crate) fn push_end(tokens: &mut [u32], n: TokenIndex, partner: TokenIndex, rule: u32, p: BytePosition)
     requires { ⌜ (n .0 * 5 + 5 ≤ length (now tokens)) × (p .0 ≤ 65535) ⌝ }
     requires { ⌜ partner .0 ≤ 4294967295 ⌝ }
     ensures { λ _. ⌜ Pushed (now (tokens .entry)) (n .0) (End (partner .0) rule 0 (p .0)) (now (tokens .exit)) ⌝ }
@@ -45,7 +45,7 @@ pub fn push_end(tokens: &mut [u32], n: TokenIndex, partner: TokenIndex, rule: u3
 }
 
 // `*end_token_index = new_index`, at a Start; an End is left alone.
-pub fn set_partner(tokens: &mut [u32], index: TokenIndex, partner: TokenIndex)
+pub(crate) fn set_partner(tokens: &mut [u32], index: TokenIndex, partner: TokenIndex)
     requires { ⌜ (index .0 * 5 + 5 ≤ length (now tokens)) × (partner .0 ≤ 4294967295) ⌝ }
     ensures { λ _. ⌜ Patched (now (tokens .entry)) (index .0) (partner .0) (now (tokens .exit)) ⌝ }
 {
@@ -57,7 +57,7 @@ pub fn set_partner(tokens: &mut [u32], index: TokenIndex, partner: TokenIndex)
 }
 
 // Sets the tag of the last of n tokens, if that is an End.
-pub fn tag_last(tokens: &mut [u32], n: TokenIndex, tag: u32)
+pub(crate) fn tag_last(tokens: &mut [u32], n: TokenIndex, tag: u32)
     requires { ⌜ n .0 * 5 ≤ length (now tokens) ⌝ }
     ensures { λ _. ⌜ Tagged (now (tokens .entry)) (n .0) tag (now (tokens .exit)) ⌝ }
 {
@@ -73,7 +73,7 @@ pub fn tag_last(tokens: &mut [u32], n: TokenIndex, tag: u32)
 }
 
 // What stands before `from` is kept, and the rest of the area is zeroed.
-pub fn zero_from(area: &mut [u32], from: usize)
+pub(crate) fn zero_from(area: &mut [u32], from: usize)
     ensures { λ _. ⌜ now (area .exit) ≡ filled (length (now (area .entry))) (take from (now (area .entry))) ⌝ }
 {
     let mut i = from;
@@ -84,7 +84,7 @@ pub fn zero_from(area: &mut [u32], from: usize)
 }
 
 // The whole area is zeroed.
-pub fn clear(area: &mut [u32])
+pub(crate) fn clear(area: &mut [u32])
     ensures { λ _. ⌜ now (area .exit) ≡ filled (length (now (area .entry))) [] ⌝ }
 {
     zero_from(area, 0);
@@ -117,7 +117,7 @@ fn settle(tokens: &mut [u32], n: usize)
 }
 
 // "tokens, then zeros": the area at the end of a run that gave 0 with n tokens, whatever stood in it before the run.
-pub fn write_tokens(tokens: &mut [u32], n: TokenIndex)
+pub(crate) fn write_tokens(tokens: &mut [u32], n: TokenIndex)
     requires { ⌜ n .0 * 5 ≤ length (now tokens) ⌝ }
     ensures { λ _. ⌜ now (tokens .exit) ≡ filled (length (now (tokens .entry))) (numbers (tokens-of (queue-of (now (tokens .entry)) (n .0)))) ⌝ }
 {

@@ -27,7 +27,7 @@ ghost use Rattle.engine.specs.Attempts.{Lent};
 ghost use Rattle.engine.specs.Tokens.{Paired};
 ghost use Rattle.engine.specs.Rule.{starting, dropped, Recording, Tracking, Keeps};
 
-pub fn is_negative(l: Lookahead) -> bool
+pub(crate) fn is_negative(l: Lookahead) -> bool
     ensures { λ r. ⌜ r ≡ is-negative l ⌝ }
 {
     match l {
@@ -37,7 +37,7 @@ pub fn is_negative(l: Lookahead) -> bool
     }
 }
 
-pub fn is_atomic(a: Atomicity) -> bool
+pub(crate) fn is_atomic(a: Atomicity) -> bool
     ensures { λ r. ⌜ r ≡ is-atomic a ⌝ }
 {
     match a {
@@ -58,7 +58,7 @@ fn is_none(l: Lookahead) -> bool
 }
 
 // "A rule is recorded if lookahead is None and atomicity isn't Atomic."
-pub fn produces(s: ParserState) -> bool
+pub(crate) fn produces(s: ParserState) -> bool
     ensures { λ r. ⌜ ((tokens scratch : List ℕ) → r ≡ Pest.produces (view tokens scratch s)) ⌝ }
 {
     let l = s.lookahead;
@@ -67,7 +67,7 @@ pub fn produces(s: ParserState) -> bool
 }
 
 // The Start of a rule that is recorded.
-pub fn start_rule(tokens: &mut [u32], capacity: usize, line: u32, s: ParserState) -> Ending
+pub(crate) fn start_rule(tokens: &mut [u32], capacity: usize, line: u32, s: ParserState) -> Ending
     requires { ⌜ Recording (now tokens) capacity s ⌝ }
     ensures { λ r. ⌜ ((g : Setting) (scratch : List ℕ) → g .capacity ≡ capacity → view-end (now (tokens .exit)) scratch r ≡ starting g line (view (now (tokens .entry)) scratch s)) ⌝ }
     ensures { λ r. ⌜ Keeps (s .queue .0 * 5) (s .queue .0 * 5 + 5) (now (tokens .entry)) (s .queue .0) (now (tokens .exit)) r ⌝ }
@@ -89,7 +89,7 @@ pub fn start_rule(tokens: &mut [u32], capacity: usize, line: u32, s: ParserState
 }
 
 // `track`, where it is due by how the body ended, and outside Atomic.
-pub fn track_rule(
+pub(crate) fn track_rule(
     scratch: &mut [u32],
     due: bool,
     line: u32,
@@ -130,7 +130,7 @@ fn pair_up(tokens: &mut [u32], index: TokenIndex, n: TokenIndex)
 }
 
 // The End of a rule that is recorded, and the partner of its Start, which is the token at `index`.
-pub fn close_rule(
+pub(crate) fn close_rule(
     tokens: &mut [u32],
     capacity: usize,
     line: u32,
@@ -160,7 +160,7 @@ pub fn close_rule(
 }
 
 // The queue cut to before the Start of a rule that failed.
-pub fn drop_rule(index: TokenIndex, s: ParserState) -> ParserState
+pub(crate) fn drop_rule(index: TokenIndex, s: ParserState) -> ParserState
     ensures { λ r. ⌜ ((tokens scratch : List ℕ) → view tokens scratch r ≡ dropped (index .0) (view tokens scratch s)) × (r .queue .0 ≤ s .queue .0) ⌝ }
 {
     let n = s.queue;
@@ -176,7 +176,7 @@ pub fn drop_rule(index: TokenIndex, s: ParserState) -> ParserState
 }
 
 // "under lookahead None it sets the last sibling's tag, if any"
-pub fn tag_node(tokens: &mut [u32], tag: u32, s: ParserState) -> Ending
+pub(crate) fn tag_node(tokens: &mut [u32], tag: u32, s: ParserState) -> Ending
     requires { ⌜ s .queue .0 * 5 ≤ length (now tokens) ⌝ }
     ensures { λ r. ⌜ ((scratch : List ℕ) → view-end (now (tokens .exit)) scratch r ≡ Pest.tag-node tag (view (now (tokens .entry)) scratch s)) ⌝ }
     ensures { λ r. ⌜ Keeps ((s .queue .0 - 1) * 5) (s .queue .0 * 5) (now (tokens .entry)) (s .queue .0) (now (tokens .exit)) r ⌝ }

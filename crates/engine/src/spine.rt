@@ -12,7 +12,7 @@ pub struct Spine {
     pub line: usize,
 }
 
-pub fn descend(nodes: &[i32], top: usize) -> Spine
+pub(crate) fn descend(nodes: &[i32], top: usize) -> Spine
     requires { ⌜ Slopes (now nodes) top ⌝ }
     ensures { λ r. ⌜ Spined (now (nodes .entry)) top r ⌝ }
 {
@@ -37,7 +37,7 @@ pub fn descend(nodes: &[i32], top: usize) -> Spine
 }
 
 // The line that is i steps below `top`: found again from the top, so that no list of lines is kept.
-pub fn spine_at(nodes: &[i32], top: usize, i: usize) -> usize
+pub(crate) fn spine_at(nodes: &[i32], top: usize, i: usize) -> usize
     requires { ⌜ Slopes (now nodes) top × Forks (now nodes) top i ⌝ }
     ensures { λ r. ⌜ r ≡ spine-line (now (nodes .entry)) top i ⌝ }
 {
@@ -52,13 +52,13 @@ pub fn spine_at(nodes: &[i32], top: usize, i: usize) -> usize
 }
 
 // Whether a fork's right side is evaluated, where its left side ended in Ok or not.
-pub fn goes_right(kind: usize, good: bool) -> bool
+pub(crate) fn goes_right(kind: usize, good: bool) -> bool
     ensures { λ r. ⌜ r ≡ goes kind good ⌝ }
 {
     if kind == 6 { good } else { !good }
 }
 
-pub fn ended(good: bool, s: ParserState) -> Ending
+pub(crate) fn ended(good: bool, s: ParserState) -> Ending
     ensures { λ r. ⌜ r ≡ ending-of good s ⌝ }
 {
     if good { Ending::Ok(s) } else { Ending::Err(s) }

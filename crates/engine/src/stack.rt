@@ -38,7 +38,7 @@ pub enum Popped {
     Full,
 }
 
-pub fn push(scratch: &mut [u32], s: Stack, start: u32, end: u32) -> Pushed
+pub(crate) fn push(scratch: &mut [u32], s: Stack, start: u32, end: u32) -> Pushed
     requires { ⌜ StackReady (now scratch) s ⌝ }
     ensures { λ r. ⌜ push-of (now (scratch .exit)) r ≡ pushed (span start end) (stack-of (now (scratch .entry)) s) ⌝ }
     ensures { λ r. ⌜ OutsideStack (now (scratch .entry)) (now (scratch .exit)) ⌝ }
@@ -53,7 +53,7 @@ pub fn push(scratch: &mut [u32], s: Stack, start: u32, end: u32) -> Pushed
 }
 
 // The span that a pair of numbers says.
-pub fn span_of(x: Pair) -> Span
+pub(crate) fn span_of(x: Pair) -> Span
     ensures { λ r. ⌜ (r .start .0 ≡ x .first) × (r .end .0 ≡ x .second) ⌝ }
 {
     Span {
@@ -63,7 +63,7 @@ pub fn span_of(x: Pair) -> Span
 }
 
 // Where the stack is at its lowest since the innermost checkpoint, the checkpoint comes to owe the entry that goes.
-pub fn pop(scratch: &mut [u32], s: Stack) -> Popped
+pub(crate) fn pop(scratch: &mut [u32], s: Stack) -> Popped
     requires { ⌜ StackReady (now scratch) s ⌝ }
     ensures { λ r. ⌜ take-of (now (scratch .exit)) r ≡ taken (stack-of (now (scratch .entry)) s) ⌝ }
     ensures { λ r. ⌜ OutsideStack (now (scratch .entry)) (now (scratch .exit)) ⌝ }
@@ -98,7 +98,7 @@ pub fn pop(scratch: &mut [u32], s: Stack) -> Popped
     }
 }
 
-pub fn snapshot(scratch: &mut [u32], s: Stack) -> Stack
+pub(crate) fn snapshot(scratch: &mut [u32], s: Stack) -> Stack
     requires { ⌜ StackReady (now scratch) s × (s .checkpoints < most-checkpoints) ⌝ }
     ensures { λ r. ⌜ stack-of (now (scratch .exit)) r ≡ snapshot (stack-of (now (scratch .entry)) s) ⌝ }
     ensures { λ r. ⌜ OutsideStack (now (scratch .entry)) (now (scratch .exit)) ⌝ }
@@ -137,7 +137,7 @@ fn refill(scratch: &mut [u32], low: usize, p: usize, n: usize)
 }
 
 // "on dropping, the outer takes the lower of the two lowest heights": it keeps the popped entries down to its own lowest height.
-pub fn clear_snapshot(scratch: &mut [u32], s: Stack) -> Stack
+pub(crate) fn clear_snapshot(scratch: &mut [u32], s: Stack) -> Stack
     requires { ⌜ StackReady (now scratch) s ⌝ }
     ensures { λ r. ⌜ stack-of (now (scratch .exit)) r ≡ clear-snapshot (stack-of (now (scratch .entry)) s) ⌝ }
     ensures { λ r. ⌜ OutsideStack (now (scratch .entry)) (now (scratch .exit)) ⌝ }
@@ -178,7 +178,7 @@ pub fn clear_snapshot(scratch: &mut [u32], s: Stack) -> Stack
 }
 
 // What was pushed since the innermost checkpoint goes, and what was popped comes back.
-pub fn restore(scratch: &mut [u32], s: Stack) -> Stack
+pub(crate) fn restore(scratch: &mut [u32], s: Stack) -> Stack
     requires { ⌜ StackReady (now scratch) s ⌝ }
     ensures { λ r. ⌜ stack-of (now (scratch .exit)) r ≡ restore (stack-of (now (scratch .entry)) s) ⌝ }
     ensures { λ r. ⌜ OutsideStack (now (scratch .entry)) (now (scratch .exit)) ⌝ }

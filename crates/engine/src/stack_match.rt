@@ -23,7 +23,7 @@ ghost use Rattle.engine.specs.Sound.{StackReady, OutsideStack};
 ghost use Rattle.engine.specs.StackMatch.{entry-at, index-of, next-of, match-end};
 
 // The bytes of the entry at an index from the bottom, as a part of the text.
-pub fn entry<'a>(text: &'a [u8], scratch: &[u32], index: usize) -> &'a [u8]
+pub(crate) fn entry<'a>(text: &'a [u8], scratch: &[u32], index: usize) -> &'a [u8]
     requires { ⌜ index * 2 + 2 ≤ length (now scratch) ⌝ }
     ensures { λ r. ⌜ now r ≡ as-str (now (text .entry)) (entry-at (now (scratch .entry)) index) ⌝ }
 {
@@ -37,7 +37,7 @@ pub enum Index {
 }
 
 // "an index above the height, or below minus the height, fails; a negative one counts from the height"
-pub fn normalize_index(i: i32, len: usize) -> Index
+pub(crate) fn normalize_index(i: i32, len: usize) -> Index
     ensures { λ r. ⌜ r ≡ index-of (normalize-index i len) ⌝ }
 {
     if i < 0 {
@@ -57,7 +57,7 @@ pub fn normalize_index(i: i32, len: usize) -> Index
 }
 
 // Field c of kind 16: "0 bottom up, 1 top down; 2, 3 the same without end".
-pub fn normalize_end(i: i32, c: usize, len: usize) -> Index
+pub(crate) fn normalize_end(i: i32, c: usize, len: usize) -> Index
     ensures { λ r. ⌜ r ≡ index-of (normalize-end (if ltb c 2 then some i else none) len) ⌝ }
 {
     if c < 2 {
@@ -67,7 +67,7 @@ pub fn normalize_end(i: i32, c: usize, len: usize) -> Index
     }
 }
 
-pub fn is_top_down(c: usize) -> bool
+pub(crate) fn is_top_down(c: usize) -> bool
     ensures { λ r. ⌜ r ≡ (eqb c 1 || eqb c 3) ⌝ }
 {
     if c == 1 {
@@ -103,7 +103,7 @@ fn next_entry(low: usize, high: usize, down: bool) -> Next
 }
 
 // Matches the entries from `start` to before `end`, in either direction: all, or it fails.
-pub fn match_slice(
+pub(crate) fn match_slice(
     text: &[u8],
     scratch: &[u32],
     s: Stack,
@@ -138,7 +138,7 @@ pub enum MatchPopped {
 }
 
 // "keeps popping entries until one fails to match; failing, .. popped entries are gone"
-pub fn match_pop(text: &[u8], scratch: &mut [u32], s: Stack, pos: BytePosition) -> MatchPopped
+pub(crate) fn match_pop(text: &[u8], scratch: &mut [u32], s: Stack, pos: BytePosition) -> MatchPopped
     requires { ⌜ StackReady (now scratch) s ⌝ }
     ensures { λ r. ⌜ ((line : ℕ) → (m : ParserState) → match-end (now (scratch .exit)) line m r ≡ stack-match-pop (now (text .entry)) true line (stack-of (now (scratch .entry)) s .cache) (pos .0) (set-stack (stack-of (now (scratch .entry)) s) m)) ⌝ }
     ensures { λ r. ⌜ OutsideStack (now (scratch .entry)) (now (scratch .exit)) ⌝ }

@@ -32,7 +32,7 @@ ghost use Rattle.engine.specs.Areas.{stack-of, view, view-end};
 ghost use Rattle.engine.specs.Sound.{StackReady, StateReady, PushReady, OutsideStack, most-checkpoints};
 ghost use Rattle.engine.specs.StackMatch.{match-of};
 
-pub fn checkpoint(scratch: &mut [u32], s: ParserState) -> ParserState
+pub(crate) fn checkpoint(scratch: &mut [u32], s: ParserState) -> ParserState
     requires { ⌜ StateReady (now scratch) s × (s .stack .checkpoints < most-checkpoints) ⌝ }
     ensures { λ r. ⌜ ((tokens : List ℕ) → view tokens (now (scratch .exit)) r ≡ checkpoint (view tokens (now (scratch .entry)) s)) ⌝ }
     ensures { λ r. ⌜ OutsideStack (now (scratch .entry)) (now (scratch .exit)) ⌝ }
@@ -42,7 +42,7 @@ pub fn checkpoint(scratch: &mut [u32], s: ParserState) -> ParserState
     ParserState { stack: w, ..s }
 }
 
-pub fn checkpoint_ok(scratch: &mut [u32], s: ParserState) -> ParserState
+pub(crate) fn checkpoint_ok(scratch: &mut [u32], s: ParserState) -> ParserState
     requires { ⌜ StateReady (now scratch) s ⌝ }
     ensures { λ r. ⌜ ((tokens : List ℕ) → view tokens (now (scratch .exit)) r ≡ checkpoint-ok (view tokens (now (scratch .entry)) s)) ⌝ }
     ensures { λ r. ⌜ OutsideStack (now (scratch .entry)) (now (scratch .exit)) ⌝ }
@@ -52,7 +52,7 @@ pub fn checkpoint_ok(scratch: &mut [u32], s: ParserState) -> ParserState
     ParserState { stack: w, ..s }
 }
 
-pub fn restored(scratch: &mut [u32], s: ParserState) -> ParserState
+pub(crate) fn restored(scratch: &mut [u32], s: ParserState) -> ParserState
     requires { ⌜ StateReady (now scratch) s ⌝ }
     ensures { λ r. ⌜ ((tokens : List ℕ) → view tokens (now (scratch .exit)) r ≡ restored (view tokens (now (scratch .entry)) s)) ⌝ }
     ensures { λ r. ⌜ OutsideStack (now (scratch .entry)) (now (scratch .exit)) ⌝ }
@@ -63,7 +63,7 @@ pub fn restored(scratch: &mut [u32], s: ParserState) -> ParserState
 }
 
 // The state after a match, or the same state with Err.
-pub fn moved(m: Matched, s: ParserState) -> Ending
+pub(crate) fn moved(m: Matched, s: ParserState) -> Ending
     ensures { λ r. ⌜ ((tokens : List ℕ) → (scratch : List ℕ) → view-end tokens scratch r ≡ moved (match-of m) (view tokens scratch s)) ⌝ }
 {
     match m {
@@ -73,7 +73,7 @@ pub fn moved(m: Matched, s: ParserState) -> Ending
 }
 
 // Kind 14, after its line's Ok: the span since `start` is pushed.
-pub fn stack_push_end(scratch: &mut [u32], line: u32, start: BytePosition, s: ParserState) -> Ending
+pub(crate) fn stack_push_end(scratch: &mut [u32], line: u32, start: BytePosition, s: ParserState) -> Ending
     requires { ⌜ PushReady (now scratch) start s ⌝ }
     ensures { λ r. ⌜ ((text : List ℕ) → (tokens : List ℕ) → view-end tokens (now (scratch .exit)) r ≡ push-end text true line (start .0) (Ok (view tokens (now (scratch .entry)) s))) ⌝ }
     ensures { λ r. ⌜ OutsideStack (now (scratch .entry)) (now (scratch .exit)) ⌝ }
@@ -87,7 +87,7 @@ pub fn stack_push_end(scratch: &mut [u32], line: u32, start: BytePosition, s: Pa
 }
 
 // Kind 15: "matches what it pops".
-pub fn stack_pop(text: &[u8], scratch: &mut [u32], line: u32, s: ParserState) -> Ending
+pub(crate) fn stack_pop(text: &[u8], scratch: &mut [u32], line: u32, s: ParserState) -> Ending
     requires { ⌜ StateReady (now scratch) s ⌝ }
     ensures { λ r. ⌜ ((tokens : List ℕ) → view-end tokens (now (scratch .exit)) r ≡ stack-pop (now (text .entry)) true line (stack-of (now (scratch .entry)) (s .stack) .cache) (view tokens (now (scratch .entry)) s)) ⌝ }
     ensures { λ r. ⌜ OutsideStack (now (scratch .entry)) (now (scratch .exit)) ⌝ }
@@ -105,7 +105,7 @@ pub fn stack_pop(text: &[u8], scratch: &mut [u32], line: u32, s: ParserState) ->
 }
 
 // Kind 16, by its fields a, b, c.
-pub fn stack_match_peek_slice(
+pub(crate) fn stack_match_peek_slice(
     text: &[u8],
     scratch: &[u32],
     a: i32,
@@ -133,7 +133,7 @@ pub fn stack_match_peek_slice(
 }
 
 // Kind 17.
-pub fn stack_match_pop(text: &[u8], scratch: &mut [u32], line: u32, s: ParserState) -> Ending
+pub(crate) fn stack_match_pop(text: &[u8], scratch: &mut [u32], line: u32, s: ParserState) -> Ending
     requires { ⌜ StateReady (now scratch) s ⌝ }
     ensures { λ r. ⌜ ((tokens : List ℕ) → view-end tokens (now (scratch .exit)) r ≡ stack-match-pop (now (text .entry)) true line (stack-of (now (scratch .entry)) (s .stack) .cache) (s .position .0) (view tokens (now (scratch .entry)) s)) ⌝ }
     ensures { λ r. ⌜ OutsideStack (now (scratch .entry)) (now (scratch .exit)) ⌝ }

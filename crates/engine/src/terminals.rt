@@ -16,7 +16,7 @@ ghost use Rattle.engine.specs.Pest as Pest;
 ghost use Rattle.engine.specs.Areas.{view, view-end};
 
 // Kinds 1 and 2: `size` bytes from `offset` on of the literal text.
-pub fn literal<'a>(
+pub(crate) fn literal<'a>(
     literals: &'a [u8],
     text: &'a [u8],
     offset: usize,
@@ -38,7 +38,7 @@ pub fn literal<'a>(
 }
 
 // Kind 3.
-pub fn range(text: &[u8], low: u32, high: u32, s: ParserState) -> Ending
+pub(crate) fn range(text: &[u8], low: u32, high: u32, s: ParserState) -> Ending
     ensures { λ r. ⌜ ((tokens scratch : List ℕ) → view-end tokens scratch r ≡ Pest.moved (Position.match-range (now (text .entry)) low high (s .position .0)) (view tokens scratch s)) ⌝ }
 {
     let p = s.position;
@@ -46,7 +46,7 @@ pub fn range(text: &[u8], low: u32, high: u32, s: ParserState) -> Ending
 }
 
 // Kind 4.
-pub fn skip(text: &[u8], n: usize, s: ParserState) -> Ending
+pub(crate) fn skip(text: &[u8], n: usize, s: ParserState) -> Ending
     ensures { λ r. ⌜ ((tokens scratch : List ℕ) → view-end tokens scratch r ≡ Pest.moved (Position.skip (now (text .entry)) n (s .position .0)) (view tokens scratch s)) ⌝ }
 {
     let p = s.position;
@@ -54,7 +54,7 @@ pub fn skip(text: &[u8], n: usize, s: ParserState) -> Ending
 }
 
 // Kind 5.
-pub fn end_of_input(text: &[u8], s: ParserState) -> Ending
+pub(crate) fn end_of_input(text: &[u8], s: ParserState) -> Ending
     ensures { λ r. ⌜ ((tokens scratch : List ℕ) → view-end tokens scratch r ≡ (if Position.at-end (now (text .entry)) (s .position .0) then Ok (view tokens scratch s) else Err (view tokens scratch s))) ⌝ }
 {
     let p = s.position;
