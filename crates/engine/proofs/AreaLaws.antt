@@ -1,4 +1,4 @@
--- Areas: one frame law over [lo, hi), what one write does to a region of numbers, and an area zeroed from an index on.
+-- What one write does to a region of numbers, and an area zeroed from an index on.
 use mathlib.Core.Path.{_≡_, refl, sym, ap, ap₂, _∙_}
 use mathlib.Core.List.{List, [], _∷_, _++_, append-assoc, append-nil}
 use Prim.Native.Nat.{ℕ, zero, suc, _+_, _*_, _-_, _≤_, _<_, min}
@@ -7,52 +7,15 @@ use native.Mathlib.Decide.{decLt, decLe}
 use native.Mathlib.Numerals.{add-one}
 use lib.ListN.{length, getD, take, set, replicate, length-set, length-append, length-take, length-replicate, getD-replicate, List·getD-append}
 use lib.Seq.{getD-set-same, getD-set-other, take-append-le, take-all, take-suc, take-length, getD-take, getD-append-add, ext-getD}
-use Rattle.engine.specs.Areas.{numbers, pairs, Outside}
+use Rattle.engine.specs.Areas.{numbers, Outside}
 use Rattle.engine.specs.Outcome.{filled}
-
--- ── the frame ──
-pub outside-refl : {lo hi : ℕ} (a : List ℕ) → Outside lo hi a a
-outside-refl a = record { size = refl; below = λ k l. refl; above = λ k l. refl }
-
-pub outside-trans : {lo hi : ℕ} {a b c : List ℕ} → Outside lo hi a b → Outside lo hi b c → Outside lo hi a c
-outside-trans p q = record { size = q .size ∙ p .size; below = λ k l. p .below k l ∙ q .below k l; above = λ k l. p .above k l ∙ q .above k l }
-
-pub outside-wider : {lo hi lo′ hi′ : ℕ} {a b : List ℕ} → lo′ ≤ lo → hi ≤ hi′ → Outside lo hi a b → Outside lo′ hi′ a b
-outside-wider p q o = record { size = o .size; below = λ k l. o .below k (omega arith); above = λ k l. o .above k (omega arith) }
-
-pub outside-set : (a : List ℕ) (i v : ℕ) → Outside i (i + 1) a (set a i v)
-outside-set a i v = record {
-  size = length-set a i v;
-  below = λ k l. sym (getD-set-other a i k v 0 (omega arith));
-  above = λ k l. sym (getD-set-other a i k v 0 (omega arith));
-}
+use Rattle.engine.proofs.Regions.{outside-wider, outside-set, same-below, numbers-length, numbers-same}
 
 -- a write within [lo, hi)
 pub outside-set-in : (a : List ℕ) (lo hi i v : ℕ) → lo ≤ i → i < hi → Outside lo hi a (set a i v)
 outside-set-in a lo hi i v p q = outside-wider p (omega arith) (outside-set a i v)
 
--- ── a region of numbers ──
--- a and b agree on [lo, hi)
-abbrev pub Same : ℕ → ℕ → List ℕ → List ℕ → Type 0
-Same lo hi a b = (k : ℕ) → lo ≤ k → k < hi → getD a k 0 ≡ getD b k 0
-
-pub same-below : {lo hi : ℕ} {a b : List ℕ} (from to : ℕ) → to ≤ lo → Outside lo hi a b → Same from to a b
-same-below from to h o = λ k l m. o .below k (omega arith)
-
-pub same-above : {lo hi : ℕ} {a b : List ℕ} (from to : ℕ) → hi ≤ from → Outside lo hi a b → Same from to a b
-same-above from to h o = λ k l m. o .above k (omega arith)
-
-pub numbers-length : (a : List ℕ) (at n : ℕ) → length (numbers a at n) ≡ n
-unfolding numbers
-numbers-length a at zero = refl
-numbers-length a at (suc n) = length-append (numbers a at n) (getD a (at + n) 0 ∷ []) ∙ ap (λ (k : ℕ). k + 1) (numbers-length a at n) ∙ add-one n
-
-pub numbers-same : (a b : List ℕ) (at n : ℕ) → Same at (at + n) a b → numbers a at n ≡ numbers b at n
-unfolding numbers
-numbers-same a b at zero h = refl
-numbers-same a b at (suc n) h =
-    ap₂ (λ (l : List ℕ) (x : ℕ). l ++ (x ∷ [])) (numbers-same a b at n (λ k l m. h k l (omega arith))) (h (at + n) (omega arith) (omega arith))
-
+-- ── A region of numbers ──
 -- one number more
 pub numbers-set : (a : List ℕ) (at n x : ℕ) → at + n < length a → numbers (set a (at + n) x) at (n + 1) ≡ numbers a at n ++ (x ∷ [])
 unfolding numbers
@@ -73,16 +36,7 @@ numbers-take a at (suc n) m h = go (λ l. numbers-take a at n m l) (decLe m n)
         let e : m ≡ suc n = omega arith in
         rw e (take-all (suc n) (numbers a at (suc n)) (omega (arith, numbers-length a at (suc n))))
 
--- ── a region of pairs ──
-pub pairs-same : {A : Type 0} (mk : ℕ → ℕ → A) (a b : List ℕ) (at n : ℕ) → Same at (at + n * 2) a b → pairs mk a at n ≡ pairs mk b at n
-unfolding pairs
-pairs-same mk a b at zero h = refl
-pairs-same {A} mk a b at (suc n) h =
-    ap₂ (λ (x : A) (l : List A). x ∷ l)
-    (ap₂ mk (h (at + n * 2) (omega arith) (omega arith)) (h (at + n * 2 + 1) (omega arith) (omega arith)))
-    (pairs-same mk a b at n (λ k l m. h k l (omega arith)))
-
--- ── an area zeroed from an index on ──
+-- ── An area zeroed from an index on ──
 -- b is a, whose numbers in [from, to) are zero
 pub record Zeroed (from to : ℕ) (a b : List ℕ) : Type 0 where
   pub size : length b ≡ length a

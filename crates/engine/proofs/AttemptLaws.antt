@@ -18,7 +18,8 @@ use Rattle.engine.specs.Pest as Pest
 use Rattle.engine.specs.Pest.{ParserState}
 use Rattle.engine.specs.Areas.{numbers, Outside, positives-at, negatives-at}
 use Rattle.engine.specs.Attempts.{Tried, tried, tried-of, with-tried, noted, truncated, advanced, appended, tracked, Track, kept, full, within, Few}
-use Rattle.engine.proofs.AreaLaws.{outside-refl, outside-set, outside-set-in, numbers-length, numbers-same, numbers-set, numbers-take, same-below, same-above}
+use Rattle.engine.proofs.Regions.{outside-refl, outside-set, numbers-length, numbers-same, same-below, same-above}
+use Rattle.engine.proofs.AreaLaws.{outside-set-in, numbers-set, numbers-take}
 
 tried-ext : {f f′ : ℕ} {p p′ n n′ : List ℕ} → f ≡ f′ → p ≡ p′ → n ≡ n′
     → _≡_ {A = Tried} (record { furthest = f; positive = p; negative = n }) (record { furthest = f′; positive = p′; negative = n′ })

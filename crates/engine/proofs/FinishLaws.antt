@@ -12,7 +12,8 @@ use Rattle.engine.specs.Areas.{Outside, token-at, queue-of}
 use Rattle.engine.specs.Outcome.{numbers, filled}
 use Rattle.engine.specs.Tokens.{token-of, tokens-of, five-at, Written}
 use Rattle.engine.specs.Finish.{Settled, AllSettled}
-use Rattle.engine.proofs.AreaLaws.{outside-trans, outside-set-in}
+use Rattle.engine.proofs.Regions.{outside-trans}
+use Rattle.engine.proofs.AreaLaws.{outside-set-in}
 use Rattle.engine.proofs.TokenLaws.{token-by, five-ext, token-back, start-by, end-by, before-kept, token-changed, queue-getD, written-none, written-one, written-below, tokens-area}
 
 module _ (a : List ℕ) (i : ℕ) (h : i * 5 + 5 ≤ length a) where

@@ -27,7 +27,6 @@ pub mod GrammarLaws
 pub mod RefusalLaws
 pub mod FordLaws
 pub mod CharacterLaws
-pub mod Plain
 pub mod Recognition
 pub mod EndLaws
 pub mod Matching

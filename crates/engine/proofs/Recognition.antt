@@ -36,7 +36,7 @@ use Rattle.engine.specs.Ford as Ford
 use Rattle.engine.specs.Ford.{Peg, Ford, peg, each, each-of, any, times}
 use Rattle.engine.proofs.Trees.{Literals, still, Steady}
 use Rattle.engine.proofs.FordLaws.{ford-unique, ford-suffix, star-left}
-use Rattle.engine.proofs.Plain.{Calls, whole, Plain}
+use Rattle.engine.proofs.Trees.{Calls, whole, Plain}
 use Rattle.engine.proofs.CharacterLaws.{Ascii, eqb-ascii, folded-ascii, Compared, alike, unlike, compared, characters-of, all-characters, of-nil, of-next, Begins, no-character, a-character, begins}
 use Rattle.engine.proofs.Matchers.{string-same, folded-same, range-same, skip-same}
 use Rattle.engine.specs.Fit.{Fit}

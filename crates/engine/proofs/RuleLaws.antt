@@ -25,7 +25,7 @@ use Rattle.engine.specs.Areas.{Outside, view, queue-of, stack-of, span, 
 use Rattle.engine.specs.Attempts.{Tried, tried, tried-of, with-tried, noted, tracked, Track, kept, full, within}
 use Rattle.engine.specs.Tokens.{Written, Patched, Paired, Pushed}
 use Rattle.engine.specs.Rule.{starting, dropped}
-use Rattle.engine.proofs.AreaLaws.{outside-refl, outside-trans, outside-wider, same-below, same-above, pairs-same}
+use Rattle.engine.proofs.Regions.{outside-refl, outside-trans, outside-wider, same-below, same-above, pairs-same}
 use Rattle.engine.proofs.TokenLaws.{queue-length, queue-take}
 use Rattle.engine.proofs.AttemptLaws.{track-is}
 

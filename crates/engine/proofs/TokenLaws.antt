@@ -17,7 +17,8 @@ use Rattle.engine.specs.Pest.{QueueableToken, Start, End, with-end, tag-
 use Rattle.engine.specs.Areas.{Outside, token-at, queue-of}
 use Rattle.engine.specs.Outcome.{numbers, filled}
 use Rattle.engine.specs.Tokens.{token-of, tokens-of, five-at, put-token, Written, Pushed, Patched, Tagged, Settled, SettledTo}
-use Rattle.engine.proofs.AreaLaws.{outside-refl, outside-trans, outside-wider, outside-set, outside-set-in}
+use Rattle.engine.proofs.Regions.{outside-refl, outside-trans, outside-wider, outside-set}
+use Rattle.engine.proofs.AreaLaws.{outside-set-in}
 use Rattle.engine.proofs.QueueLaws.{queue-from, tag-at-end, tag-at-start}
 
 -- ── a token by its five numbers ──

@@ -6,7 +6,7 @@ use Prim.Native.Nat.{ℕ}
 use Rattle.engine.specs.declared.parser_state.ParserState.{ParserState}
 use Rattle.engine.specs.Pest.{produces}
 use Rattle.engine.specs.Areas.{view}
-use Rattle.engine.proofs.AreaLaws.{outside-refl, outside-trans, outside-wider}
+use Rattle.engine.proofs.Regions.{outside-refl, outside-trans, outside-wider}
 use Rattle.engine.proofs.RuleLaws.{close-ok, close-full, close-off, paired-queue, room-yes, room-no}
 use borrow.Author.Needs.{needs}
 use native.Mathlib.Omega.{arith}

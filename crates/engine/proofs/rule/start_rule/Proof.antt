@@ -6,7 +6,7 @@ use Prim.Native.Nat.{ℕ}
 use Rattle.engine.specs.declared.parser_state.ParserState.{ParserState}
 use Rattle.engine.specs.Pest.{produces}
 use Rattle.engine.specs.Areas.{view}
-use Rattle.engine.proofs.AreaLaws.{outside-refl}
+use Rattle.engine.proofs.Regions.{outside-refl}
 use Rattle.engine.proofs.RuleLaws.{start-ok, start-full, start-off, room-yes, room-no}
 use borrow.Author.Needs.{needs}
 use Rattle.engine.proofs.rule.start_rule.Statement.{statement}

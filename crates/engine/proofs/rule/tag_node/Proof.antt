@@ -4,7 +4,7 @@ use mathlib.Core.List.{List}
 use Prim.Native.Nat.{ℕ}
 use Rattle.engine.specs.declared.parser_state.ParserState.{ParserState}
 use Rattle.engine.specs.Areas.{view}
-use Rattle.engine.proofs.AreaLaws.{outside-refl}
+use Rattle.engine.proofs.Regions.{outside-refl}
 use Rattle.engine.proofs.RuleLaws.{tag-on, tag-off}
 use borrow.Author.Needs.{needs}
 use Rattle.engine.proofs.rule.tag_node.Statement.{statement}

@@ -8,7 +8,7 @@ use Rattle.engine.specs.Ending.{Ok}
 use Rattle.engine.specs.Pest as Pest
 use Rattle.engine.specs.Areas.{view}
 use Rattle.engine.specs.Attempts.{view-tracked}
-use Rattle.engine.proofs.AreaLaws.{outside-refl}
+use Rattle.engine.proofs.Regions.{outside-refl}
 use Rattle.engine.proofs.RuleLaws.{track-not-due, track-atomic, track-told, kept-view}
 use borrow.Author.Needs.{needs}
 use Rattle.engine.proofs.rule.track_rule.Statement.{statement}
