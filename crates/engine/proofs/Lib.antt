@@ -40,3 +40,4 @@ pub mod StackKept
 pub mod FinishLaws
 pub mod RuleEnds
 pub mod Runs
+pub mod Demand3

@@ -15,10 +15,12 @@ pub const NEGATIVES_AT: usize = 2560;
 
 pub const LENGTHS_AT: usize = 2816;
 
-// How many entries, and how many popped entries, there is room for.
+// How many entries, popped entries, and attempts in a list there is room for.
 pub const MOST_ENTRIES: usize = 128;
 
 pub const MOST_DEBT: usize = 1024;
+
+pub const MOST_ATTEMPTS: usize = 256;
 
 pub struct Pair {
     pub first: u32,
