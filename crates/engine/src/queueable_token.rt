@@ -34,7 +34,13 @@ pub(crate) fn push_start(tokens: &mut [u32], n: TokenIndex, p: BytePosition)
 }
 
 // Pushes an End without a tag, onto a queue of n tokens.
-pub(crate) fn push_end(tokens: &mut [u32], n: TokenIndex, partner: TokenIndex, rule: u32, p: BytePosition)
+pub(crate) fn push_end(
+    tokens: &mut [u32],
+    n: TokenIndex,
+    partner: TokenIndex,
+    rule: u32,
+    p: BytePosition,
+)
     requires { ⌜ (n .0 * 5 + 5 ≤ length (now tokens)) × (p .0 ≤ 65535) ⌝ }
     requires { ⌜ partner .0 ≤ 4294967295 ⌝ }
     ensures { λ _. ⌜ Pushed (now (tokens .entry)) (n .0) (End (partner .0) rule 0 (p .0)) (now (tokens .exit)) ⌝ }

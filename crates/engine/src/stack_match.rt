@@ -138,7 +138,12 @@ pub enum MatchPopped {
 }
 
 // "keeps popping entries until one fails to match; failing, .. popped entries are gone"
-pub(crate) fn match_pop(text: &[u8], scratch: &mut [u32], s: Stack, pos: BytePosition) -> MatchPopped
+pub(crate) fn match_pop(
+    text: &[u8],
+    scratch: &mut [u32],
+    s: Stack,
+    pos: BytePosition,
+) -> MatchPopped
     requires { ⌜ StackReady (now scratch) s ⌝ }
     ensures { λ r. ⌜ ((line : ℕ) → (m : ParserState) → match-end (now (scratch .exit)) line m r ≡ stack-match-pop (now (text .entry)) true line (stack-of (now (scratch .entry)) s .cache) (pos .0) (set-stack (stack-of (now (scratch .entry)) s) m)) ⌝ }
     ensures { λ r. ⌜ OutsideStack (now (scratch .entry)) (now (scratch .exit)) ⌝ }

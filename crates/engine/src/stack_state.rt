@@ -73,7 +73,12 @@ pub(crate) fn moved(m: Matched, s: ParserState) -> Ending
 }
 
 // Kind 14, after its line's Ok: the span since `start` is pushed.
-pub(crate) fn stack_push_end(scratch: &mut [u32], line: u32, start: BytePosition, s: ParserState) -> Ending
+pub(crate) fn stack_push_end(
+    scratch: &mut [u32],
+    line: u32,
+    start: BytePosition,
+    s: ParserState,
+) -> Ending
     requires { ⌜ PushReady (now scratch) start s ⌝ }
     ensures { λ r. ⌜ ((text : List ℕ) → (tokens : List ℕ) → view-end tokens (now (scratch .exit)) r ≡ push-end text true line (start .0) (Ok (view tokens (now (scratch .entry)) s))) ⌝ }
     ensures { λ r. ⌜ OutsideStack (now (scratch .entry)) (now (scratch .exit)) ⌝ }
