@@ -2,13 +2,13 @@
 -- the trees of the lines that it names. What is said of a kind is said once, in a list of twenty rows, and taken at the line's kind.
 use mathlib.Core.Path.{_≡_, refl, sym, ap, ap₂, _∙_, subst}
 use mathlib.Core.Bool.{Bool, true, false, _&&_, _||_, not, true≢false}
-use mathlib.Core.List.{List, [], _∷_, _++_}
+use mathlib.Core.List.{List, [], _∷_}
 use mathlib.Core.Option.{Option, none, some}
 use Prim.Native.Nat.{ℕ, zero, suc, _+_, _-_, _*_, _≤_, _<_}
 use native.Mathlib.Omega.{arith}
 use native.Mathlib.Decide.{decLe}
 use native.Mathlib.Numerals.{add-one}
-use lib.Dec.{eqb, leb, ltb}
+use lib.Dec.{eqb, leb}
 use lib.IntN.{ℤ, pos, negsuc}
 use lib.ListN.{length, getD, take, drop, length-append, List·getD-append, List·getD-eq-default}
 use lib.Seq.{getD-at}
@@ -18,11 +18,11 @@ use Rattle.matching.proofs.Lead.{and-left, and-right, within-true, within-is}
 use Rattle.matching.proofs.Characters.{is-utf8-iff}
 use Rattle.engine.specs.declared.grammar.Refused.the-variants.{No}
 use Rattle.engine.specs.Ending.{if_then_else_}
-use Rattle.engine.specs.Grammar.{Node, node-at, natural, kind-at, line-count, row, first-line, between, nil, scalar, count, name, edge, literal-part, called, fields-fit, line-fits, misfit, Exp, match-string, match-insensitive, match-range, skip, end-of-input, and-then, or-else, rule, sequence, repeat, optional, lookahead, atomic, stack-push, stack-pop, stack-match-peek-slice, stack-match-pop, restore-on-err, tag-node, call, atomicity-of, peek-slice, tree-of, trees, tree-at, rule-at, plain-line, plain}
+use Rattle.engine.specs.Grammar.{Node, node-at, natural, kind-at, line-count, row, first-line, between, nil, scalar, count, name, edge, literal-part, called, fields-fit, line-fits, misfit, Exp, match-string, match-insensitive, match-range, skip, end-of-input, and-then, or-else, rule, sequence, repeat, optional, lookahead, atomic, stack-push, stack-pop, stack-match-pop, restore-on-err, tag-node, call, atomicity-of, peek-slice, tree-of, trees, tree-at, rule-at, plain-line, plain}
 use Rattle.engine.specs.Nullable.{stands-still, nullable, still-repeat}
 use Rattle.engine.specs.Outcome.{Input, Refusal, refuse, unless, good-text, first-of, tests, refusal}
 use Rattle.engine.specs.Refusals.{refused-of}
-use Rattle.engine.specs.Lines.{tests-of, line-misfits, flagged-repeat}
+use Rattle.engine.specs.Lines.{tests-of, line-misfits}
 use Rattle.engine.proofs.EdgeLaws as EdgeLaws
 use Rattle.engine.proofs.GrammarLaws.{rows}
 use Rattle.engine.proofs.RefusalLaws.{misfit-fours}
@@ -263,6 +263,7 @@ module _ (ns : List ℤ) (literals : List ℕ) where
   lower-tree l x hi w = sym (look-up (line-count ns) (l - 1) x (w .low) (omega (arith, w .high)) (omega (arith, w .high, w .low)))
 
 -- ── Twenty rows, of which the one of the line's kind counts ──
+-- R holds between two lists at the place of kind k; i: how many places are left behind.
 module _ {A B : Type 0} (R : A → B → Type 0) (k : ℕ) where
   abbrev pub Each : (i : ℕ) → List A → List B → Type 0
   Each i [] ys = Unit {0}
@@ -274,6 +275,11 @@ module _ {A B : Type 0} (R : A → B → Type 0) (k : ℕ) where
   each-at i (x ∷ xs) [] h j e l a b = absurd h
   each-at i (x ∷ xs) (y ∷ ys) h zero e l a b = h .0 (omega arith)
   each-at i (x ∷ xs) (y ∷ ys) h (suc j) e l a b = each-at (suc i) xs ys (h .1) j (omega arith) (omega arith) a b
+
+infixr 20 _▹_
+-- A row, and those after it.
+abbrev _▹_ : {A B : Type 0} → A → B → A × B
+u ▹ v = (u, v)
 
 module _ (ns : List ℤ) (literals : List ℕ) (g : Accepted ns literals) (l : ℕ) (lo : 1 ≤ l) (hi : l ≤ line-count ns) where
   pub facts : Fits ns literals l
@@ -295,61 +301,13 @@ module _ (ns : List ℤ) (literals : List ℕ) (g : Accepted ns literals) (l : �
       let b : ℕ = natural (n .b) in
       let f : Fits ns literals l = facts in
       tree-step ns literals l lo hi
-      ∙ by-kind (λ x y. x ≡ y) (tree-rows literals (below-at ns literals (l - 1)) l n) (tree-rows literals (tree-at ns literals) l n) end-of-input end-of-input refl (
-        λ q. refl,
-        (
-          λ q. refl,
-          (
-            λ q. refl,
-            (
-              λ q. refl,
-              (
-                λ q. refl,
-                (
-                  λ q. ap₂ and-then (down a (f .a₆ q)) (down b (f .b₆ q)),
-                  (
-                    λ q. ap₂ or-else (down a (f .a₇ q)) (down b (f .b₇ q)),
-                    (
-                      λ q. ap (rule l a) (down b (f .b₈ q)),
-                      (
-                        λ q. ap sequence (down a (f .a₉ q)),
-                        (
-                          λ q. ap repeat (down a (f .a₁₀ q)),
-                          (
-                            λ q. ap optional (down a (f .a₁₁ q)),
-                            (
-                              λ q. ap (lookahead (eqb b 1)) (down a (f .a₁₂ q)),
-                              (
-                                λ q. ap (atomic (atomicity-of b)) (down a (f .a₁₃ q)),
-                                (
-                                  λ q. ap (stack-push l) (down a (f .a₁₄ q)),
-                                  (
-                                    λ q. refl,
-                                    (
-                                      λ q. refl,
-                                      (
-                                        λ q. refl,
-                                        (
-                                          λ q. ap restore-on-err (down a (f .a₁₈ q)),
-                                          (λ q. refl, (λ q. refl, tt)),
-                                        ),
-                                      ),
-                                    ),
-                                  ),
-                                ),
-                              ),
-                            ),
-                          ),
-                        ),
-                      ),
-                    ),
-                  ),
-                ),
-              ),
-            ),
-          ),
-        ),
-      )
+      ∙ by-kind (λ x y. x ≡ y) (tree-rows literals (below-at ns literals (l - 1)) l n) (tree-rows literals (tree-at ns literals) l n) end-of-input end-of-input refl
+      ((λ q. refl) ▹ (λ q. refl) ▹ (λ q. refl) ▹ (λ q. refl) ▹ (λ q. refl) ▹ (λ q. ap₂ and-then (down a (f .a₆ q)) (down b (f .b₆ q)))
+      ▹ (λ q. ap₂ or-else (down a (f .a₇ q)) (down b (f .b₇ q))) ▹ (λ q. ap (rule l a) (down b (f .b₈ q)))
+      ▹ (λ q. ap sequence (down a (f .a₉ q))) ▹ (λ q. ap repeat (down a (f .a₁₀ q))) ▹ (λ q. ap optional (down a (f .a₁₁ q)))
+      ▹ (λ q. ap (lookahead (eqb b 1)) (down a (f .a₁₂ q))) ▹ (λ q. ap (atomic (atomicity-of b)) (down a (f .a₁₃ q)))
+      ▹ (λ q. ap (stack-push l) (down a (f .a₁₄ q))) ▹ (λ q. refl) ▹ (λ q. refl) ▹ (λ q. refl)
+      ▹ (λ q. ap restore-on-err (down a (f .a₁₈ q))) ▹ (λ q. refl) ▹ (λ q. refl) ▹ tt)
 
   -- The same at a kind: at 6, `tree-at l ≡ and-then (tree-at a) (tree-at b)`, and so for each.
   pub tree-kind : (k : ℕ) → kind-at ns l ≡ k → tree-at ns literals l ≡ getD (tree-rows literals (tree-at ns literals) l (node-at ns l)) (k - 1) end-of-input
@@ -397,37 +355,11 @@ module _ (ns : List ℤ) (literals : List ℕ) (g : Accepted ns literals) where
   literal-rows l i ih =
       let a : ℕ = natural (node-at ns l .a) in
       let b : ℕ = natural (node-at ns l .b) in
-      let f : Fits ns literals l = facts ns literals g l (i .0) (i .1) in (
-        λ q. f .part₁ q .text,
-        (
-          λ q. f .part₂ q .text,
-          (
-            λ q. tt,
-            (
-              λ q. tt,
-              (
-                λ q. tt,
-                (
-                  λ q. (ih a (f .a₆ q), ih b (f .b₆ q)),
-                  (
-                    λ q. (ih a (f .a₇ q), ih b (f .b₇ q)),
-                    (
-                      λ q. ih b (f .b₈ q),
-                      (
-                        λ q. ih a (f .a₉ q),
-                        (
-                          λ q. ih a (f .a₁₀ q),
-                          (λ q. ih a (f .a₁₁ q), (λ q. ih a (f .a₁₂ q), (λ q. ih a (f .a₁₃ q), (λ q. ih a (f .a₁₄ q), (λ q. tt, (λ q. tt, (λ q. tt, (λ q. ih a (f .a₁₈ q), (λ q. tt, (λ q. tt, tt)))))))))),
-                        ),
-                      ),
-                    ),
-                  ),
-                ),
-              ),
-            ),
-          ),
-        ),
-      )
+      let f : Fits ns literals l = facts ns literals g l (i .0) (i .1) in
+      ((λ q. f .part₁ q .text) ▹ (λ q. f .part₂ q .text) ▹ (λ q. tt) ▹ (λ q. tt) ▹ (λ q. tt) ▹ (λ q. (ih a (f .a₆ q), ih b (f .b₆ q)))
+      ▹ (λ q. (ih a (f .a₇ q), ih b (f .b₇ q))) ▹ (λ q. ih b (f .b₈ q)) ▹ (λ q. ih a (f .a₉ q)) ▹ (λ q. ih a (f .a₁₀ q))
+      ▹ (λ q. ih a (f .a₁₁ q)) ▹ (λ q. ih a (f .a₁₂ q)) ▹ (λ q. ih a (f .a₁₃ q)) ▹ (λ q. ih a (f .a₁₄ q)) ▹ (λ q. tt) ▹ (λ q. tt)
+      ▹ (λ q. tt) ▹ (λ q. ih a (f .a₁₈ q)) ▹ (λ q. tt) ▹ (λ q. tt) ▹ tt)
 
   pub tree-literals : (l : ℕ) → Literals (tree-at ns literals l)
   tree-literals = everywhere ns literals g Literals literal-rows tt
@@ -439,37 +371,11 @@ module _ (ns : List ℤ) (literals : List ℕ) (g : Accepted ns literals) where
   call-rows l i ih =
       let a : ℕ = natural (node-at ns l .a) in
       let b : ℕ = natural (node-at ns l .b) in
-      let f : Fits ns literals l = facts ns literals g l (i .0) (i .1) in (
-        λ q. tt,
-        (
-          λ q. tt,
-          (
-            λ q. tt,
-            (
-              λ q. tt,
-              (
-                λ q. tt,
-                (
-                  λ q. (ih a (f .a₆ q), ih b (f .b₆ q)),
-                  (
-                    λ q. (ih a (f .a₇ q), ih b (f .b₇ q)),
-                    (
-                      λ q. ih b (f .b₈ q),
-                      (
-                        λ q. ih a (f .a₉ q),
-                        (
-                          λ q. ih a (f .a₁₀ q),
-                          (λ q. ih a (f .a₁₁ q), (λ q. ih a (f .a₁₂ q), (λ q. ih a (f .a₁₃ q), (λ q. ih a (f .a₁₄ q), (λ q. tt, (λ q. tt, (λ q. tt, (λ q. ih a (f .a₁₈ q), (λ q. tt, (λ q. f .call₂₀ q, tt)))))))))),
-                        ),
-                      ),
-                    ),
-                  ),
-                ),
-              ),
-            ),
-          ),
-        ),
-      )
+      let f : Fits ns literals l = facts ns literals g l (i .0) (i .1) in
+      ((λ q. tt) ▹ (λ q. tt) ▹ (λ q. tt) ▹ (λ q. tt) ▹ (λ q. tt) ▹ (λ q. (ih a (f .a₆ q), ih b (f .b₆ q)))
+      ▹ (λ q. (ih a (f .a₇ q), ih b (f .b₇ q))) ▹ (λ q. ih b (f .b₈ q)) ▹ (λ q. ih a (f .a₉ q)) ▹ (λ q. ih a (f .a₁₀ q))
+      ▹ (λ q. ih a (f .a₁₁ q)) ▹ (λ q. ih a (f .a₁₂ q)) ▹ (λ q. ih a (f .a₁₃ q)) ▹ (λ q. ih a (f .a₁₄ q)) ▹ (λ q. tt) ▹ (λ q. tt)
+      ▹ (λ q. tt) ▹ (λ q. ih a (f .a₁₈ q)) ▹ (λ q. tt) ▹ (λ q. f .call₂₀ q) ▹ tt)
 
   pub tree-calls : (l : ℕ) → Calls (RuleLine ns) (tree-at ns literals l)
   tree-calls = everywhere ns literals g (Calls (RuleLine ns)) call-rows tt
@@ -493,49 +399,12 @@ module _ (ns : List ℤ) (literals : List ℕ) (g : Accepted ns literals) (set :
       let f : Fits ns literals l = facts ns literals g l (i .0) (i .1) in
       ap (still set) (tree-row ns literals g l (i .0) (i .1))
       ∙ by-kind ns literals g l (i .0) (i .1) (λ (x : Exp) (y : Bool). still set x ≡ y)
-      (tree-rows literals (tree-at ns literals) l n) (still-rows (eqb a 0) (eqb b 0) (nullable ns a) (nullable ns b)) end-of-input false refl (
-        λ q. ap (λ (m : ℕ). eqb m 0) (f .part₁ q .length-is),
-        (
-          λ q. ap (λ (m : ℕ). eqb m 0) (f .part₂ q .length-is),
-          (
-            λ q. refl,
-            (
-              λ q. refl,
-              (
-                λ q. refl,
-                (
-                  λ q. ap₂ (λ x y. x && y) (ih a (f .a₆ q)) (ih b (f .b₆ q)),
-                  (
-                    λ q. ap₂ (λ x y. x || y) (ih a (f .a₇ q)) (ih b (f .b₇ q)),
-                    (
-                      λ q. ih b (f .b₈ q),
-                      (
-                        λ q. ih a (f .a₉ q),
-                        (
-                          λ q. refl,
-                          (
-                            λ q. refl,
-                            (
-                              λ q. refl,
-                              (
-                                λ q. ih a (f .a₁₃ q),
-                                (
-                                  λ q. ih a (f .a₁₄ q),
-                                  (λ q. refl, (λ q. refl, (λ q. refl, (λ q. ih a (f .a₁₈ q), (λ q. refl, (λ q. same a (f .call₂₀ q), tt)))))),
-                                ),
-                              ),
-                            ),
-                          ),
-                        ),
-                      ),
-                    ),
-                  ),
-                ),
-              ),
-            ),
-          ),
-        ),
-      )
+      (tree-rows literals (tree-at ns literals) l n) (still-rows (eqb a 0) (eqb b 0) (nullable ns a) (nullable ns b)) end-of-input false refl
+      ((λ q. ap (λ (m : ℕ). eqb m 0) (f .part₁ q .length-is)) ▹ (λ q. ap (λ (m : ℕ). eqb m 0) (f .part₂ q .length-is)) ▹ (λ q. refl)
+      ▹ (λ q. refl) ▹ (λ q. refl) ▹ (λ q. ap₂ (λ x y. x && y) (ih a (f .a₆ q)) (ih b (f .b₆ q)))
+      ▹ (λ q. ap₂ (λ x y. x || y) (ih a (f .a₇ q)) (ih b (f .b₇ q))) ▹ (λ q. ih b (f .b₈ q)) ▹ (λ q. ih a (f .a₉ q)) ▹ (λ q. refl)
+      ▹ (λ q. refl) ▹ (λ q. refl) ▹ (λ q. ih a (f .a₁₃ q)) ▹ (λ q. ih a (f .a₁₄ q)) ▹ (λ q. refl) ▹ (λ q. refl) ▹ (λ q. refl)
+      ▹ (λ q. ih a (f .a₁₈ q)) ▹ (λ q. refl) ▹ (λ q. same a (f .call₂₀ q)) ▹ tt)
       ∙ sym (nullable-is ns l (i .0) (i .1))
 
   pub tree-still : (l : ℕ) → In ns l → still set (tree-at ns literals l) ≡ nullable ns l
@@ -545,37 +414,12 @@ module _ (ns : List ℤ) (literals : List ℕ) (g : Accepted ns literals) (set :
   steady-rows l i ih =
       let a : ℕ = natural (node-at ns l .a) in
       let b : ℕ = natural (node-at ns l .b) in
-      let f : Fits ns literals l = facts ns literals g l (i .0) (i .1) in (
-        λ q. tt,
-        (
-          λ q. tt,
-          (
-            λ q. tt,
-            (
-              λ q. tt,
-              (
-                λ q. tt,
-                (
-                  λ q. (ih a (f .a₆ q), ih b (f .b₆ q)),
-                  (
-                    λ q. (ih a (f .a₇ q), ih b (f .b₇ q)),
-                    (
-                      λ q. ih b (f .b₈ q),
-                      (
-                        λ q. ih a (f .a₉ q),
-                        (
-                          λ q. (tree-still a (f .a₁₀ q .low, omega (arith, f .a₁₀ q .high, i .1)) ∙ g .moves l (i .0) (i .1) q, ih a (f .a₁₀ q)),
-                          (λ q. ih a (f .a₁₁ q), (λ q. ih a (f .a₁₂ q), (λ q. ih a (f .a₁₃ q), (λ q. ih a (f .a₁₄ q), (λ q. tt, (λ q. tt, (λ q. tt, (λ q. ih a (f .a₁₈ q), (λ q. tt, (λ q. tt, tt)))))))))),
-                        ),
-                      ),
-                    ),
-                  ),
-                ),
-              ),
-            ),
-          ),
-        ),
-      )
+      let f : Fits ns literals l = facts ns literals g l (i .0) (i .1) in
+      ((λ q. tt) ▹ (λ q. tt) ▹ (λ q. tt) ▹ (λ q. tt) ▹ (λ q. tt) ▹ (λ q. (ih a (f .a₆ q), ih b (f .b₆ q)))
+      ▹ (λ q. (ih a (f .a₇ q), ih b (f .b₇ q))) ▹ (λ q. ih b (f .b₈ q)) ▹ (λ q. ih a (f .a₉ q))
+      ▹ (λ q. (tree-still a (f .a₁₀ q .low, omega (arith, f .a₁₀ q .high, i .1)) ∙ g .moves l (i .0) (i .1) q, ih a (f .a₁₀ q)))
+      ▹ (λ q. ih a (f .a₁₁ q)) ▹ (λ q. ih a (f .a₁₂ q)) ▹ (λ q. ih a (f .a₁₃ q)) ▹ (λ q. ih a (f .a₁₄ q)) ▹ (λ q. tt) ▹ (λ q. tt)
+      ▹ (λ q. tt) ▹ (λ q. ih a (f .a₁₈ q)) ▹ (λ q. tt) ▹ (λ q. tt) ▹ tt)
 
   pub tree-steady : (l : ℕ) → Steady set (tree-at ns literals l)
   tree-steady = everywhere ns literals g (Steady set) steady-rows tt
@@ -643,37 +487,10 @@ module _ (ns : List ℤ) (literals : List ℕ) (g : Accepted ns literals) (p : p
   whole-at l i e =
       let n : Node = node-at ns l in
       ap whole (tree-row ns literals g l (i .0) (i .1))
-      ∙ by-kind ns literals g l (i .0) (i .1) (λ (x y : Exp). whole x ≡ true) (tree-rows literals (tree-at ns literals) l n) (tree-rows literals (tree-at ns literals) l n) end-of-input end-of-input refl (
-        λ q. refl,
-        (
-          λ q. refl,
-          (
-            λ q. refl,
-            (
-              λ q. refl,
-              (
-                λ q. refl,
-                (
-                  λ q. six-no l e q,
-                  (
-                    λ q. refl,
-                    (
-                      λ q. refl,
-                      (
-                        λ q. refl,
-                        (
-                          λ q. refl,
-                          (λ q. refl, (λ q. refl, (λ q. refl, (λ q. refl, (λ q. refl, (λ q. refl, (λ q. refl, (λ q. refl, (λ q. refl, (λ q. refl, tt)))))))))),
-                        ),
-                      ),
-                    ),
-                  ),
-                ),
-              ),
-            ),
-          ),
-        ),
-      )
+      ∙ by-kind ns literals g l (i .0) (i .1) (λ (x y : Exp). whole x ≡ true) (tree-rows literals (tree-at ns literals) l n) (tree-rows literals (tree-at ns literals) l n) end-of-input end-of-input refl
+      ((λ q. refl) ▹ (λ q. refl) ▹ (λ q. refl) ▹ (λ q. refl) ▹ (λ q. refl) ▹ (λ q. six-no l e q) ▹ (λ q. refl) ▹ (λ q. refl) ▹ (λ q. refl)
+      ▹ (λ q. refl) ▹ (λ q. refl) ▹ (λ q. refl) ▹ (λ q. refl) ▹ (λ q. refl) ▹ (λ q. refl) ▹ (λ q. refl) ▹ (λ q. refl) ▹ (λ q. refl)
+      ▹ (λ q. refl) ▹ (λ q. refl) ▹ tt)
 
   module _ (l : ℕ) (i : In ns l) where
     inside : (x : ℕ) → Lower l x → In ns x
@@ -688,61 +505,12 @@ module _ (ns : List ℤ) (literals : List ℕ) (g : Accepted ns literals) (p : p
         let b : ℕ = natural (node-at ns l .b) in
         let f : Fits ns literals l = facts ns literals g l (i .0) (i .1) in
         let r : (k : ℕ) → kind-at ns l ≡ k → getD (plain-rows (not-six ns a) (not-six ns b)) (k - 1) false ≡ true = plain-row l i in
-        let one : Lower l a → not-six ns a ≡ true → Plain (tree-at ns literals a) × (whole (tree-at ns literals a) ≡ true) = λ w e. (ih a w, whole-at a (inside a w) e) in (
-          λ q. tt,
-          (
-            λ q. tt,
-            (
-              λ q. tt,
-              (
-                λ q. tt,
-                (
-                  λ q. tt,
-                  (
-                    λ q. (ih a (f .a₆ q), ih b (f .b₆ q)),
-                    (
-                      λ q. (ih a (f .a₇ q), ih b (f .b₇ q), whole-at a (inside a (f .a₇ q)) (and-left (not-six ns a) (not-six ns b) (r 7 q)), whole-at b (inside b (f .b₇ q)) (and-right (not-six ns a) (not-six ns b) (r 7 q))),
-                      (
-                        λ q. (ih b (f .b₈ q), whole-at b (inside b (f .b₈ q)) (r 8 q)),
-                        (
-                          λ q. ih a (f .a₉ q),
-                          (
-                            λ q. one (f .a₁₀ q) (r 10 q),
-                            (
-                              λ q. one (f .a₁₁ q) (r 11 q),
-                              (
-                                λ q. one (f .a₁₂ q) (r 12 q),
-                                (
-                                  λ q. one (f .a₁₃ q) (r 13 q),
-                                  (
-                                    λ q. never 14 q refl,
-                                    (
-                                      λ q. never 15 q refl,
-                                      (
-                                        λ q. never 16 q refl,
-                                        (
-                                          λ q. never 17 q refl,
-                                          (
-                                            λ q. never 18 q refl,
-                                            (λ q. tt, (λ q. tt, tt)),
-                                          ),
-                                        ),
-                                      ),
-                                    ),
-                                  ),
-                                ),
-                              ),
-                            ),
-                          ),
-                        ),
-                      ),
-                    ),
-                  ),
-                ),
-              ),
-            ),
-          ),
-        )
+        let one : Lower l a → not-six ns a ≡ true → Plain (tree-at ns literals a) × (whole (tree-at ns literals a) ≡ true) = λ w e. (ih a w, whole-at a (inside a w) e) in
+        ((λ q. tt) ▹ (λ q. tt) ▹ (λ q. tt) ▹ (λ q. tt) ▹ (λ q. tt) ▹ (λ q. (ih a (f .a₆ q), ih b (f .b₆ q)))
+        ▹ (λ q. (ih a (f .a₇ q), ih b (f .b₇ q), whole-at a (inside a (f .a₇ q)) (and-left (not-six ns a) (not-six ns b) (r 7 q)), whole-at b (inside b (f .b₇ q)) (and-right (not-six ns a) (not-six ns b) (r 7 q))))
+        ▹ (λ q. (ih b (f .b₈ q), whole-at b (inside b (f .b₈ q)) (r 8 q))) ▹ (λ q. ih a (f .a₉ q)) ▹ (λ q. one (f .a₁₀ q) (r 10 q))
+        ▹ (λ q. one (f .a₁₁ q) (r 11 q)) ▹ (λ q. one (f .a₁₂ q) (r 12 q)) ▹ (λ q. one (f .a₁₃ q) (r 13 q)) ▹ (λ q. never 14 q refl)
+        ▹ (λ q. never 15 q refl) ▹ (λ q. never 16 q refl) ▹ (λ q. never 17 q refl) ▹ (λ q. never 18 q refl) ▹ (λ q. tt) ▹ (λ q. tt) ▹ tt)
 
   pub tree-plain : (l : ℕ) → Plain (tree-at ns literals l)
   tree-plain = everywhere ns literals g Plain plain-each tt

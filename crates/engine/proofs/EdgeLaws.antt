@@ -3,19 +3,16 @@
 use mathlib.Core.Path.{_≡_, refl, sym, ap, _∙_, subst}
 use mathlib.Core.Bool.{Bool, true, false, _&&_, _||_, true≢false}
 use mathlib.Core.List.{List, []}
-use mathlib.Core.Option.{some}
 use Prim.Native.Nat.{ℕ, zero, suc, _+_, _-_, _≤_, _<_}
 use native.Mathlib.Omega.{arith}
 use native.Mathlib.Decide.{decLe}
-use native.Mathlib.Nat.{add-zero}
 use lib.Dec.{leb, ltb}
 use lib.ListN.{length, take, drop, getD, length-drop, length-take}
 use lib.Seq.{drop-drop, drop-length, getD-drop}
-use borrow.Author.Tests.{leb-true, le-leb, lt-leb, lt-ltb, le-ltb, ltb-true, ltb-false}
-use Rattle.matching.specs.Utf8.{Utf8, utf8-end, utf8-next, Character, decode, is-utf8}
+use borrow.Author.Tests.{leb-true, le-leb, lt-leb, ltb-true, ltb-false}
+use Rattle.matching.specs.Utf8.{Utf8, utf8-end, utf8-next, is-utf8}
 use Rattle.matching.proofs.Lead.{and-left, and-right, within-is, below, above, is-tail}
-use Rattle.matching.proofs.Forward.{char-size}
-use Rattle.matching.proofs.Characters.{is-utf8-iff, characters-nil}
+use Rattle.matching.proofs.Characters.{is-utf8-iff}
 use Rattle.matching.proofs.Edges.{edge-byte, tails-of}
 use Rattle.matching.proofs.Edges as Edges
 use Rattle.engine.specs.Grammar.{edge}

@@ -1,14 +1,12 @@
 -- A search over lines from the first on: what the loop has still to search gives the answer of the whole search.
-use mathlib.Core.Path.{_≡_, refl, ap, _∙_}
+use mathlib.Core.Path.{_≡_, ap, _∙_}
 use mathlib.Core.Bool.{Bool, true, false}
-use mathlib.Core.Option.{Option, none, some}
+use mathlib.Core.Option.{none, some}
 use Prim.Native.Nat.{ℕ, zero, suc, _+_, _-_, _≤_, _<_}
 use native.Mathlib.Omega.{arith}
 use native.Mathlib.Numerals.{add-one}
-use Rattle.engine.specs.declared.grammar.Fault.{Fault}
 use Rattle.engine.specs.declared.grammar.Fault.the-variants.{No, At}
 use Rattle.engine.specs.Grammar.{first-line}
-use Rattle.engine.specs.Ending.{if_then_else_}
 use Rattle.engine.specs.Lines.{fault-of}
 
 module _ (test : ℕ → Bool) where

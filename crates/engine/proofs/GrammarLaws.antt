@@ -1,22 +1,22 @@
 -- The table of kinds as the code reads it: each test of a field is the table's test of the signed number, and the code's twenty rows are
 -- the definition's.
 use mathlib.Core.Path.{_≡_, refl, sym, ap, ap₂, _∙_}
-use mathlib.Core.Bool.{Bool, true, false, _&&_, _||_, not}
+use mathlib.Core.Bool.{Bool, true, false, _&&_, _||_}
 use mathlib.Core.List.{List, [], _∷_}
-use Prim.Native.Nat.{ℕ, zero, suc, _+_, _-_, _*_, _/_, _≤_, _<_}
+use Prim.Native.Nat.{ℕ, _+_, _-_, _*_, _/_, _≤_}
 use native.Mathlib.Omega.{arith}
-use lib.Dec.{eqb, leb}
+use lib.Dec.{eqb}
 use borrow.Author.Tests.{eqb-true}
 use lib.IntN.{ℤ, pos, negsuc}
 use lib.ListN.{length, getD}
-use Rattle.matching.specs.Utf8.{within, is-utf8}
+use Rattle.matching.specs.Utf8.{within}
 use Rattle.matching.proofs.Lead.{and-left, and-right, within-true}
 use Rattle.engine.specs.declared.node.Line.{Line}
 use Rattle.engine.specs.declared.node.Field.{Field}
 use Rattle.engine.specs.declared.grammar.Tests.{Tests}
 use Rattle.engine.specs.declared.grammar.Fault.{Fault}
 use Rattle.engine.specs.declared.grammar.Fault.the-variants.{At}
-use Rattle.engine.specs.Grammar.{Node, node-at, natural, kind-at, line-count, row, between, nil, scalar, count, name, edge, literal-part, called, fields-fit, line-fits, first-line, misfit}
+use Rattle.engine.specs.Grammar.{node-at, natural, kind-at, line-count, row, between, scalar, count, edge, literal-part, called, fields-fit, line-fits, first-line, misfit}
 use Rattle.engine.specs.Lines.{line-of, field-of, in-range, part-in, tests-of, fault-of, line-misfits}
 
 -- ── A field that names a line of kind 8 ──

@@ -2,7 +2,6 @@
 -- characters, that calls name rules, and that it is plain. `Accepted` shows all of it of the trees of an accepted grammar.
 use mathlib.Core.Path.{_≡_}
 use mathlib.Core.Bool.{Bool, true, false, _&&_, _||_}
-use mathlib.Core.List.{List}
 use Prim.Native.Nat.{ℕ}
 use lib.ListN.{length}
 use lib.Dec.{eqb}
