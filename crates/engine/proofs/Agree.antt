@@ -21,29 +21,19 @@ use Rattle.engine.specs.Forest.{Forest, empty, add, size, Token, start-t
 use Rattle.engine.specs.Reading as Reading
 use Rattle.engine.specs.Reading.{Setting, State, initial}
 use Rattle.engine.specs.Outcome.{Answer, answer, of-tokens, of-limit, of-failure, of-cause, insert, ascending}
+use Rattle.engine.specs.Tokens.{tokens-of}
+use Rattle.engine.specs.Conclude.{pest-answer, answer-to}
 use Rattle.engine.specs.Pest as Pest
 use Rattle.engine.specs.Pest.{ParserState, QueueableToken, Start, End, Result, Pairs, CustomError, ParsingError, Panic, sort-in, sort, dedup-in, dedup, state}
 use Rattle.engine.specs.Sound.{Sound, fits-none}
 use Rattle.engine.proofs.Trees.{Literals, still, Steady}
 use Rattle.engine.proofs.StackLaws.{bottom}
 use Rattle.engine.proofs.QueueLaws.{queue-from, top}
+use Rattle.engine.proofs.TokenLaws.{queue-tokens}
 use Rattle.engine.specs.Fit.{Fit}
 use Rattle.engine.proofs.Invariant.{Tested}
 use Rattle.engine.proofs.Simulation.{Sim, sim-ok, sim-err, sim-stop, eval-sim, pest-of, Good}
 use Rattle.engine.proofs.Unbounded.{Freed, freed, freed-stop, eval-frees}
-
--- ── Tokens ──
-abbrev pub five : QueueableToken → Token
-five (Start i p) = start-token i p
-five (End i r t p) = end-token i p r t
-
-map-append : {A B : Type 0} (f : A → B) (xs ys : List A) → map f (xs ++ ys) ≡ map f xs ++ map f ys
-map-append f [] ys = refl
-map-append {B = B} f (x ∷ xs) ys = ap (λ (l : List B). f x ∷ l) (map-append f xs ys)
-
-pub five-queue : (n : ℕ) (f : Forest) → map five (queue-from n f) ≡ tokens-from n f
-five-queue n empty = refl
-five-queue n (add f r t s e c) = simp (map-append, five-queue n f, five-queue (suc (n + size f)) c)
 
 -- ── sort and dedup ──
 dedup-in-insert : (y x : ℕ) (l : List ℕ) → y < x → dedup-in y (insert x l) ≡ insert x (dedup-in y l)
@@ -118,23 +108,17 @@ initial-fit g limit u = record {
   negatives = omega arith;
 }
 
--- ── What document 01 answers to pest's ending, stops included ──
-abbrev pub pest-answer : Ending ParserState → Answer
-pest-answer (Ok m) = elim (m .call-tracker .limit-reached) [ some c ↦ of-limit c (m .attempt-pos) | none ↦ of-tokens (map five (m .queue)) ]
-pest-answer (Err m) =
-    elim (m .call-tracker .limit-reached) [ some c ↦ of-limit c (m .attempt-pos) | none ↦ of-failure (m .attempt-pos) (ascending (m .pos-attempts)) (ascending (m .neg-attempts)) ]
-pest-answer (Stop c) = of-cause c
-
+-- ── The answers ──
 answers : {l : Lookahead} {a : Atomicity} {f : Forest} (r : Ending State) (m : Ending ParserState) → Sim top [] l a f r m → answer r ≡ pest-answer m
 answers r m (sim-ok s p i k) = go (s .tracker .cause)
   where
-    forest : tokens (s .siblings) ≡ map five (queue-from (s .outer) (s .siblings))
-    forest = rw (i .base) (sym (five-queue 0 (s .siblings)))
+    forest : tokens (s .siblings) ≡ tokens-of (queue-from (s .outer) (s .siblings))
+    forest = rw (i .base) (sym (queue-tokens 0 (s .siblings)))
 
     given : List Token → Option LimitKind → Answer
     given ts c = elim c [ some x ↦ of-limit x (s .attempts .furthest) | none ↦ of-tokens ts ]
 
-    go : (c : Option LimitKind) → given (tokens (s .siblings)) c ≡ given (map five (queue-from (s .outer) (s .siblings))) c
+    go : (c : Option LimitKind) → given (tokens (s .siblings)) c ≡ given (tokens-of (queue-from (s .outer) (s .siblings))) c
     go (some x) = refl
     go none = ap of-tokens forest
 answers r m (sim-err s p i k) = refl
@@ -149,13 +133,6 @@ module _ (g : Setting) (set : ℕ → Bool) (w : Tested g set) (u : Utf8 (g .tex
   alike = answers _ _ run-sim
 
 -- ── `state` ──
--- Number, place, count, tokens and report that stand for what `state` gives. A panic is no answer of a run.
-abbrev pub answer-to : Result → Answer
-answer-to (Pairs q) = of-tokens (map five q)
-answer-to (CustomError c p) = of-limit c p
-answer-to (ParsingError ps ns p) = of-failure p ps ns
-answer-to Panic = of-cause (Cause.EmptyStack 0)
-
 -- An ending that is no stop: a run that "stops for no added reason (13 to 16)".
 pub data Runs : Ending State → Type 0 where
   runs-ok : (s : State) → Runs (Ok s)
@@ -169,7 +146,7 @@ result-is : (x : Ending ParserState) → Ends x → pest-answer x ≡ answer-to 
 result-is x (ends-ok m) = go (m .call-tracker .limit-reached)
   where
     given : Option LimitKind → Answer
-    given c = elim c [ some k ↦ of-limit k (m .attempt-pos) | none ↦ of-tokens (map five (m .queue)) ]
+    given c = elim c [ some k ↦ of-limit k (m .attempt-pos) | none ↦ of-tokens (tokens-of (m .queue)) ]
 
     go : (c : Option LimitKind) → given c ≡ answer-to (Pest.pairs-of c m)
     go (some k) = refl

@@ -37,7 +37,7 @@ pub mod StateSteps
 pub mod RuleLaws
 pub mod Accepted
 pub mod StackKept
-pub mod FinishLaws
 pub mod RuleEnds
 pub mod Runs
 pub mod Demand3
+pub mod ConcludeLaws

@@ -18,6 +18,7 @@ use Rattle.engine.specs.Reading.{Setting, State, initial, most-entries, 
 use Rattle.engine.specs.Pest as Pest
 use Rattle.engine.specs.Pest.{ParserState}
 use Rattle.engine.specs.Outcome.{Input, refusal, setting, reading, answer}
+use Rattle.engine.specs.Conclude.{pest-answer, answer-to}
 use Rattle.engine.specs.Ford.{Ford, peg}
 use Rattle.engine.specs.Sound.{Fits, fits-none, fits-one}
 use Rattle.engine.specs.Fit.{Fit}
@@ -25,7 +26,7 @@ use Rattle.engine.proofs.Trees.{Literals, Steady}
 use Rattle.engine.proofs.QueueLaws.{top}
 use Rattle.engine.proofs.Invariant.{Tested, Keeps, keeps-ok, keeps-err, keeps-stop, KeepsFrom, eval-keeps}
 use Rattle.engine.proofs.Simulation.{Sim, sim-ok, sim-err, sim-stop, pest-of, held-is}
-use Rattle.engine.proofs.Agree.{initial-fit, initial-is, run-sim, alike, agree-at, Runs, answer-to, pest-answer}
+use Rattle.engine.proofs.Agree.{initial-fit, initial-is, run-sim, alike, agree-at, Runs}
 use Rattle.engine.proofs.CharacterLaws.{characters-of}
 use Rattle.engine.proofs.Recognition.{PlainRules, rules-of, Recognised, ford-at, ford-parsed, ford-failed}
 use Rattle.engine.proofs.Accepted.{Accepted, RuleLine, Started, started, rule-still, rule-still-is, tree-literals, body-literals, tree-calls, body-calls, tree-steady, body-steady, body-closed, tree-plain, body-plain, body-whole}

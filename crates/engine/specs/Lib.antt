@@ -23,4 +23,4 @@ pub mod Refusals
 pub mod StackMatch
 pub mod Rule
 pub mod Ends
-pub mod Finish
+pub mod Conclude

@@ -159,14 +159,12 @@ numbers (t ∷ ts) = t .kind ∷ t .partner ∷ t .position ∷ t .rule ∷ t .t
 abbrev pub filled : (n : ℕ) → List ℕ → List ℕ
 filled n xs = xs ++ replicate (n - length xs) 0
 
+-- The outcome of an answer in areas of n and m numbers.
+abbrev pub laid : (n m : ℕ) → Answer → Outcome
+laid n m a = record { number = a .number; place = a .place; count = a .count; tokens = filled n (numbers (a .tokens)); report = filled m (a .report) }
+
 abbrev pub started : Input → Answer → Outcome
-started i a = record {
-  number = a .number;
-  place = a .place;
-  count = a .count;
-  tokens = filled (length (i .tokens)) (numbers (a .tokens));
-  report = filled (length (i .report)) (a .report);
-}
+started i a = laid (length (i .tokens)) (length (i .report)) a
 
 -- A refused run returns count 0 and leaves "all areas".
 abbrev pub refused : Input → Refusal → Outcome

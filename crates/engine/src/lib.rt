@@ -2,9 +2,9 @@
 mod areas;
 mod attempts;
 mod call_limit_tracker;
+mod conclude;
 mod endings;
 mod entry;
-mod finish;
 mod grammar;
 mod node;
 mod nullable;
