@@ -4,6 +4,7 @@ pub mod attempts;
 pub mod call_limit_tracker;
 pub mod endings;
 pub mod entry;
+pub mod evaluation;
 pub mod finish;
 pub mod grammar;
 pub mod node;
