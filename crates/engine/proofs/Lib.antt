@@ -40,3 +40,8 @@ pub mod Accepted
 pub mod StackKept
 pub mod FinishLaws
 pub mod RuleEnds
+pub mod Steps
+pub mod Turns
+pub mod LineSteps
+pub mod TerminalSteps
+pub mod Walks
