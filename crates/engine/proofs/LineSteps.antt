@@ -10,11 +10,13 @@ use native.Mathlib.Decide.{decLe}
 use lib.Dec.{eqb}
 use lib.IntN.{ℤ}
 use lib.ListN.{length}
-use borrow.Author.Tests.{eqb-true}
+use borrow.Author.Tests.{eqb-true, ne-eqb}
 use Rattle.matching.specs.Utf8.{within}
-use Rattle.matching.proofs.Lead.{within-true}
+use Rattle.matching.proofs.Lead as Lead
+use Rattle.matching.proofs.Lead.{within-true, within-is}
 use Rattle.engine.specs.declared.node.Line as Read
 use Rattle.engine.specs.declared.parser_state.Atomicity.{Atomicity}
+use Rattle.engine.specs.declared.parser_state.Atomicity.the-variants.{NonAtomic}
 use Rattle.engine.specs.Ending.{Ending}
 use Rattle.engine.specs.Grammar as Grammar
 use Rattle.engine.specs.Grammar.{Exp, node-at, natural, kind-at, line-count, tree-at, atomicity-of}
@@ -144,3 +146,41 @@ call-is ns literals text capacity d a n e m = ap (λ (x : Read.Line). Pest.eval 
 -- What is evaluated of a tree is evaluated of the line that has it.
 pub by-tree : (ns : List ℤ) (literals text : List ℕ) (capacity d : ℕ) (x y : Exp) (m : ParserState) (r : Ending ParserState) → x ≡ y → r ≡ evaluated ns literals text capacity d y m → r ≡ evaluated ns literals text capacity d x m
 by-tree ns literals text capacity d x y m r e f = f ∙ ap (λ (z : Exp). evaluated ns literals text capacity d z m) (sym e)
+
+module _ (ns : List ℤ) (literals : List ℕ) (w : Accepted ns literals) (l : ℕ) (i : Line ns l) (n : Read.Line) (e : n ≡ line-of (node-at ns l)) where
+  -- The kind that is left where all others that open a call are excluded; `rest` as the code's match gives it.
+  pub call-of : opens-call (kind-at ns l) ≡ true
+      → (((((((Unit {0} × (n .kind ≡ 8 → ⊥)) × (n .kind ≡ 9 → ⊥)) × (n .kind ≡ 10 → ⊥)) × (n .kind ≡ 11 → ⊥)) × (n .kind ≡ 12 → ⊥)) × (n .kind ≡ 13 → ⊥)) × (n .kind ≡ 14 → ⊥)) × (n .kind ≡ 18 → ⊥) → n .kind ≡ 20
+  call-of o r = call-kind (n .kind) (ap (λ (x : Read.Line). opens-call (x .kind)) e ∙ o) (r .0 .0 .0 .0 .0 .0 .0 .1) (r .0 .0 .0 .0 .0 .0 .1) (r .0 .0 .0 .0 .0 .1) (r .0 .0 .0 .0 .1) (r .0 .0 .0 .1) (r .0 .0 .1) (r .0 .1) (r .1)
+
+  pub called-line : n .kind ≡ 20 → Line ns (n .a)
+  called-line q = let r : RuleLine ns (n .a) = called ns literals w l i n e q in record { low = r .low; high = r .high }
+
+  -- The rule that a call names, as read.
+  pub call-rule : n .kind ≡ 20 → (m : Read.Line) → m ≡ line-of (node-at ns (n .a)) → Line ns (m .b) × (m .a ≤ 65535)
+  call-rule q m f =
+      let r : RuleLine ns (n .a) = called ns literals w l i n e q in
+      let v = at-8 ns literals w (n .a) (called-line q) m f (ap (λ (x : Read.Line). x .kind) f ∙ r .kind-is) in
+      (v .0, v .1)
+
+  pub opens-at : (b : Bool) → b ≡ opens-call (n .kind) → (x : Bool) → b ≡ x → opens-call (kind-at ns l) ≡ x
+  opens-at b o x q = sym (o ∙ ap (λ (y : Read.Line). opens-call (y .kind)) e) ∙ q
+
+-- ── The test of a kind, as the code makes it ──
+module _ (k : ℕ) where
+  pub opens-low : k < 8 → false ≡ opens-call k
+  opens-low h = sym (rw (Lead.below 8 14 k h, ne-eqb k 18 (λ q. omega arith), ne-eqb k 20 (λ q. omega arith)))
+
+  pub opens-mid : 8 ≤ k → k ≤ 14 → true ≡ opens-call k
+  opens-mid lo hi = sym (rw (within-is 8 14 k lo hi))
+
+  pub opens-18 : k ≡ 18 → true ≡ opens-call k
+  opens-18 e = rw e
+
+  pub opens-rest : 14 < k → (k ≡ 18 → ⊥) → eqb k 20 ≡ opens-call k
+  opens-rest h f = sym (rw (Lead.above 8 14 k h, ne-eqb k 18 f))
+
+pub non-atomic : (b : ℕ) → (b ≡ 0 → ⊥) → (b ≡ 1 → ⊥) → NonAtomic ≡ atomicity-of b
+non-atomic zero x y = absurd (x refl)
+non-atomic (suc zero) x y = absurd (y refl)
+non-atomic (suc (suc b)) x y = refl

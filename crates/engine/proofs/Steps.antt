@@ -28,7 +28,7 @@ use Rattle.engine.specs.Reading.{Setting, is-set}
 use Rattle.engine.specs.Pest as Pest
 use Rattle.engine.specs.Pest.{ParserState, CallLimitTracker, Entered}
 use Rattle.engine.specs.Areas as Areas
-use Rattle.engine.specs.Areas.{view, view-end}
+use Rattle.engine.specs.Areas.{queue-of, view, view-end}
 use Rattle.engine.specs.Entry.{Entry, opened, refused, view-entry, entering, go-on}
 use Rattle.engine.specs.Attempts.{tried-of, noted, Few, Lent}
 use Rattle.engine.specs.Sound.{StateReady, PushReady}
@@ -351,3 +351,39 @@ module _ (ns : List ℤ) (literals text : List ℕ) (capacity : ℕ) where
 
   pub few-of : (tokens scratch : List ℕ) (d : ℕ) (s : Code.ParserState) → R tokens scratch d (view tokens scratch s) → Few (s .attempts)
   few-of tokens scratch d s r = let w : StateReady scratch s = state-of tokens scratch d s r in record { few-positives = w .positives; few-negatives = w .negatives }
+
+  -- ── What the leaf after the body asks, from the body's equation ──
+  module _ (d body : ℕ) (tokens₀ scratch₀ : List ℕ) (m : ParserState) (r₀ : R tokens₀ scratch₀ d m) (tokens scratch : List ℕ) (size : length scratch ≡ length scratch₀) (r : Coded.Ending)
+      (e : view-end tokens scratch r ≡ E d (tree-at ns literals body) m) where
+    left : LeftFrom g m (view-end tokens scratch r)
+    left = kept tokens₀ scratch₀ d body m (view-end tokens scratch r) r₀ e
+
+    marks-few : length (m .stack .lengths) ≤ 1024
+    marks-few = omega (arith, r₀ .deep)
+
+    room-same : 4864 ≤ length scratch
+    room-same = rw size (r₀ .room)
+
+    pub body-ready : (n : ℕ) → n ≤ length (m .queue) → EndReady scratch n r
+    body-ready n h = end-ready m marks-few tokens scratch room-same n r left h
+
+    pub body-push : (start : BytePosition) → start .0 ≤ length text → PushEndReady scratch start r
+    body-push start h = push-ready m marks-few tokens scratch room-same start r left (r₀ .short) h
+
+    pub body-rule : length tokens ≡ length tokens₀ → (i : ℕ) → i ≤ capacity → RuleEndReady tokens scratch capacity i r
+    body-rule t i h = rule-ready m marks-few tokens scratch room-same i r left (rw t (r₀ .area)) (r₀ .small) (r₀ .short) h
+
+  -- A checkpoint leaves the queue.
+  pub marked-queue : (tokens scratch b : List ℕ) (t u : Code.ParserState) → view tokens b u ≡ Pest.checkpoint (view tokens scratch t) → t .queue .0 ≤ length (queue-of tokens (u .queue .0))
+  marked-queue tokens scratch b t u e = omega (arith, ap (λ (x : ParserState). length (x .queue)) e, queue-length tokens (t .queue .0))
+
+  -- Lookahead and atomicity are not looked at.
+  pub ready-looking : {tokens scratch : List ℕ} {d : ℕ} {m : ParserState} → R tokens scratch d m → (l : Lookahead) → R tokens scratch d (Pest.set-lookahead l m)
+  ready-looking {m = m} r l = ready-on {m = m} {n = Pest.set-lookahead l m} r refl refl (r .fit) (r .deep)
+
+  pub ready-atom : {tokens scratch : List ℕ} {d : ℕ} {m : ParserState} → R tokens scratch d m → (a : Atomicity) → R tokens scratch d (Pest.set-atomicity a m)
+  ready-atom {m = m} r a = ready-on {m = m} {n = Pest.set-atomicity a m} r refl refl (r .fit) (r .deep)
+
+  -- A rule's Start has a place in the queue.
+  pub place-of : (tokens scratch : List ℕ) (d : ℕ) (s : Code.ParserState) → R tokens scratch d (view tokens scratch s) → s .queue .0 ≤ capacity
+  place-of tokens scratch d s r = omega (arith, r .fit .room, queue-length tokens (s .queue .0))

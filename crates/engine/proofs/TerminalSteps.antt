@@ -135,13 +135,16 @@ module _ (ns : List ℤ) (literals text : List ℕ) (capacity d : ℕ) (w : Acce
   end-15 q m y z =
       by-kind 15 (Grammar.stack-pop l) (λ k. Pest.stack-pop text true l (k .stack .cache) k) (tree-kind ns literals w l (i .low) (i .high) 15 (kind-of 15 q)) (λ room f k. refl) m y z
 
-  pub end-16 : n .kind ≡ 16 → (v : Ends) → v ≡ ends-of (node-at ns l) → (m : ParserState) (y : Ending ParserState)
-      → y ≡ Pest.stack-match-peek-slice text (v .start) (if ltb (n .c) 2 then some (v .end) else none) (eqb (n .c) 1 || eqb (n .c) 3) m → y ≡ At m
-  end-16 q v u m y z =
-      by-kind 16 (Grammar.stack-match-peek-slice (v .start) (if ltb (n .c) 2 then some (v .end) else none) (eqb (n .c) 1 || eqb (n .c) 3))
-      (λ k. Pest.stack-match-peek-slice text (v .start) (if ltb (n .c) 2 then some (v .end) else none) (eqb (n .c) 1 || eqb (n .c) 3) k)
-      (tree-kind ns literals w l (i .low) (i .high) 16 (kind-of 16 q) ∙ ap₂ (λ (x : Ends) (c : ℕ). Grammar.stack-match-peek-slice (x .start) (if ltb c 2 then some (x .end) else none) (eqb c 1 || eqb c 3)) (sym u) (ap (λ (x : Read.Line). x .c) (sym e)))
-      (λ room f k. refl) m y z
+  -- x and y: the two ends as the code passes them on.
+  pub end-16 : n .kind ≡ 16 → (v : Ends) → v ≡ ends-of (node-at ns l) → (x y : ℤ) → x ≡ v .start → y ≡ v .end → (m : ParserState) (r : Ending ParserState)
+      → r ≡ Pest.stack-match-peek-slice text x (if ltb (n .c) 2 then some y else none) (eqb (n .c) 1 || eqb (n .c) 3) m → r ≡ At m
+  end-16 q v u x y p o m r z =
+      by-kind 16 (Grammar.stack-match-peek-slice x (if ltb (n .c) 2 then some y else none) (eqb (n .c) 1 || eqb (n .c) 3))
+      (λ k. Pest.stack-match-peek-slice text x (if ltb (n .c) 2 then some y else none) (eqb (n .c) 1 || eqb (n .c) 3) k)
+      (tree-kind ns literals w l (i .low) (i .high) 16 (kind-of 16 q)
+      ∙ ap₂ (λ (j : Ends) (c : ℕ). Grammar.stack-match-peek-slice (j .start) (if ltb c 2 then some (j .end) else none) (eqb c 1 || eqb c 3)) (sym u) (ap (λ (j : Read.Line). j .c) (sym e))
+      ∙ ap₂ (λ (j k : ℤ). Grammar.stack-match-peek-slice j (if ltb (n .c) 2 then some k else none) (eqb (n .c) 1 || eqb (n .c) 3)) (sym p) (sym o))
+      (λ room f k. refl) m r z
 
   pub end-17 : n .kind ≡ 17 → (m : ParserState) (y : Ending ParserState) → y ≡ Pest.stack-match-pop text true l (m .stack .cache) (m .position) m → y ≡ At m
   end-17 q m y z =
@@ -153,3 +156,11 @@ module _ (ns : List ℤ) (literals text : List ℕ) (capacity d : ℕ) (w : Acce
   pub end-19 : n .kind ≡ 19 → (m : ParserState) (y : Ending ParserState) → y ≡ Pest.tag-node (n .a) m → y ≡ At m
   end-19 q m y z =
       by-kind 19 (Grammar.tag-node (n .a)) (λ k. Pest.tag-node (n .a) k) (tree 19 q (λ x. Grammar.tag-node (x .a)) (tree-kind ns literals w l (i .low) (i .high) 19 (kind-of 19 q))) (λ room f k. refl) m y z
+
+  -- The kind that is left; `rest` as the code's match gives it.
+  pub tag-of : (Fork (kind-at ns l) → ⊥) → opens-call (kind-at ns l) ≡ false
+      → (((((((Unit {0} × (n .kind ≡ 1 → ⊥)) × (n .kind ≡ 2 → ⊥)) × (n .kind ≡ 3 → ⊥)) × (n .kind ≡ 4 → ⊥)) × (n .kind ≡ 5 → ⊥)) × (n .kind ≡ 15 → ⊥)) × (n .kind ≡ 16 → ⊥)) × (n .kind ≡ 17 → ⊥) → n .kind ≡ 19
+  tag-of f o r =
+      let p : n .kind ≡ kind-at ns l = ap (λ (x : Read.Line). x .kind) e in
+      tag-kind (n .kind) (subst (λ (k : ℕ). 1 ≤ k) (sym p) (fits .known-low)) (subst (λ (k : ℕ). k ≤ 20) (sym p) (fits .known-high)) (subst (λ (k : ℕ). Fork k → ⊥) (sym p) f) (ap opens-call p ∙ o)
+      (r .0 .0 .0 .0 .0 .0 .0 .1) (r .0 .0 .0 .0 .0 .0 .1) (r .0 .0 .0 .0 .0 .1) (r .0 .0 .0 .0 .1) (r .0 .0 .0 .1) (r .0 .0 .1) (r .0 .1) (r .1)
