@@ -1,10 +1,10 @@
 -- A line of an accepted grammar as the code reads it: the lines that it names, and the tree that its evaluation is of. One lemma for
 -- each kind; `n` is the line as read.
-use mathlib.Core.Path.{_≡_, refl, sym, ap, ap₂, subst, _∙_}
+use mathlib.Core.Path.{_≡_, refl, sym, ap, subst, _∙_}
 use mathlib.Core.Bool.{Bool, true, false, _||_}
 use mathlib.Core.Logic.{_⊎_, inl, inr}
 use mathlib.Core.List.{List}
-use Prim.Native.Nat.{ℕ, zero, suc, _+_, _-_, _*_, _≤_, _<_}
+use Prim.Native.Nat.{ℕ, zero, suc, _+_, _*_, _≤_, _<_}
 use native.Mathlib.Omega.{arith}
 use native.Mathlib.Decide.{decLe}
 use lib.Dec.{eqb}
@@ -19,12 +19,11 @@ use Rattle.engine.specs.declared.parser_state.Atomicity.{Atomicity}
 use Rattle.engine.specs.declared.parser_state.Atomicity.the-variants.{NonAtomic}
 use Rattle.engine.specs.Ending.{Ending}
 use Rattle.engine.specs.Grammar as Grammar
-use Rattle.engine.specs.Grammar.{Exp, node-at, natural, kind-at, line-count, tree-at, atomicity-of}
+use Rattle.engine.specs.Grammar.{Exp, node-at, natural, kind-at, tree-at, atomicity-of}
 use Rattle.engine.specs.Nullable.{nullable}
 use Rattle.engine.specs.Pest as Pest
 use Rattle.engine.specs.Pest.{ParserState}
 use Rattle.engine.specs.Lines.{line-of}
-use Rattle.engine.specs.Spine.{Fork}
 use Rattle.engine.specs.Evaluation.{setting-of, Line, evaluated, opens-call}
 use Rattle.engine.proofs.Accepted.{Accepted, Lower, Fits, RuleLine, facts, tree-kind}
 

@@ -22,7 +22,7 @@ use Rattle.engine.specs.declared.parser_state.Ending.the-variants as Cod
 use Rattle.engine.specs.declared.entry.Entry as Door
 use Rattle.engine.specs.Ending.{if_then_else_, Ending, Ok, Err, Stop, on-ok, stop-if}
 use Rattle.engine.specs.Grammar as Grammar
-use Rattle.engine.specs.Grammar.{Exp, line-count, tree-at}
+use Rattle.engine.specs.Grammar.{Exp, tree-at}
 use Rattle.engine.specs.Nullable.{nullable}
 use Rattle.engine.specs.Reading.{Setting, is-set}
 use Rattle.engine.specs.Pest as Pest
@@ -30,8 +30,8 @@ use Rattle.engine.specs.Pest.{ParserState, CallLimitTracker, Entered}
 use Rattle.engine.specs.Areas as Areas
 use Rattle.engine.specs.Areas.{queue-of, view, view-end}
 use Rattle.engine.specs.Entry.{Entry, opened, refused, view-entry, entering, go-on}
-use Rattle.engine.specs.Attempts.{tried-of, noted, Few, Lent}
-use Rattle.engine.specs.Sound.{StateReady, PushReady}
+use Rattle.engine.specs.Attempts.{tried-of, noted, Few}
+use Rattle.engine.specs.Sound.{StateReady}
 use Rattle.engine.specs.Rule.{starting, Recording, Tracking}
 use Rattle.engine.specs.Ends.{EndReady, PushEndReady, RuleEndReady, atomic-back}
 use Rattle.engine.specs.Fit.{Fit}
@@ -127,6 +127,10 @@ tested-of ns literals text capacity w = record {
   closed = body-closed ns literals w;
   steady = body-steady ns literals w (rule-still ns) (rule-still-is ns);
 }
+
+-- A checkpoint leaves the queue.
+pub marked-queue : (tokens scratch b : List ℕ) (t u : Code.ParserState) → view tokens b u ≡ Pest.checkpoint (view tokens scratch t) → t .queue .0 ≤ length (queue-of tokens (u .queue .0))
+marked-queue tokens scratch b t u e = omega (arith, ap (λ (x : ParserState). length (x .queue)) e, queue-length tokens (t .queue .0))
 
 module _ (ns : List ℤ) (literals text : List ℕ) (capacity : ℕ) where
   abbrev g : Setting
@@ -372,10 +376,6 @@ module _ (ns : List ℤ) (literals text : List ℕ) (capacity : ℕ) where
 
     pub body-rule : length tokens ≡ length tokens₀ → (i : ℕ) → i ≤ capacity → RuleEndReady tokens scratch capacity i r
     body-rule t i h = rule-ready m marks-few tokens scratch room-same i r left (rw t (r₀ .area)) (r₀ .small) (r₀ .short) h
-
-  -- A checkpoint leaves the queue.
-  pub marked-queue : (tokens scratch b : List ℕ) (t u : Code.ParserState) → view tokens b u ≡ Pest.checkpoint (view tokens scratch t) → t .queue .0 ≤ length (queue-of tokens (u .queue .0))
-  marked-queue tokens scratch b t u e = omega (arith, ap (λ (x : ParserState). length (x .queue)) e, queue-length tokens (t .queue .0))
 
   -- Lookahead and atomicity are not looked at.
   pub ready-looking : {tokens scratch : List ℕ} {d : ℕ} {m : ParserState} → R tokens scratch d m → (l : Lookahead) → R tokens scratch d (Pest.set-lookahead l m)

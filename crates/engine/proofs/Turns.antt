@@ -1,15 +1,15 @@
 -- The turns of a repeat: what is left to run after some turns is what was to run where the loop began. The body moves on Ok, so that
 -- the text's length bounds the turns.
-use mathlib.Core.Path.{_≡_, refl, sym, ap, subst, _∙_}
-use mathlib.Core.Bool.{Bool, true, false}
+use mathlib.Core.Path.{_≡_, refl, sym, ap, _∙_}
+use mathlib.Core.Bool.{true, false}
 use mathlib.Core.List.{List}
-use Prim.Native.Nat.{ℕ, zero, suc, _+_, _-_, _≤_, _<_}
+use Prim.Native.Nat.{ℕ, zero, suc, _-_, _≤_, _<_}
 use native.Mathlib.Omega.{arith}
 use lib.Dec.{ltb}
 use lib.IntN.{ℤ}
 use lib.ListN.{length}
 use Rattle.engine.specs.declared.parser_state.Cause.{Cause}
-use Rattle.engine.specs.Ending.{if_then_else_, Ending, Ok, Err, Stop}
+use Rattle.engine.specs.Ending.{Ending, Ok, Err, Stop}
 use Rattle.engine.specs.Grammar as Grammar
 use Rattle.engine.specs.Grammar.{Exp, tree-at}
 use Rattle.engine.specs.Nullable.{nullable}

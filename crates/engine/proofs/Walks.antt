@@ -2,9 +2,9 @@
 -- the inner one climbs a spine (Climbs has its equations) and keeps the state fit for the next right side.
 use mathlib.Core.Path.{_≡_, refl, sym, ap, subst, _∙_}
 use mathlib.Core.Bool.{Bool, true, false}
-use mathlib.Core.Logic.{_⊎_, inl, inr}
+use mathlib.Core.Logic.{inl, inr}
 use mathlib.Core.List.{List}
-use Prim.Native.Nat.{ℕ, zero, suc, _+_, _-_, _*_, _≤_, _<_}
+use Prim.Native.Nat.{ℕ, _+_, _-_, _*_, _≤_, _<_}
 use native.Mathlib.Omega.{arith}
 use lib.Dec.{eqb}
 use lib.IntN.{ℤ}
@@ -20,11 +20,10 @@ use Rattle.engine.specs.Lines.{line-of}
 use Rattle.engine.specs.Spine.{left-of, Fork, spine-line, Forks, Slopes, Spined}
 use Rattle.engine.specs.Fit.{Fit}
 use Rattle.engine.specs.Evaluation.{setting-of, Ready, Line, evaluated}
-use Rattle.engine.proofs.Invariant.{After}
 use Rattle.engine.proofs.Accepted.{Accepted, Fits, facts, tree-kind}
 use Rattle.engine.proofs.Spines.{spine-first}
 use Rattle.engine.proofs.Climbs as Climbs
-use Rattle.engine.proofs.Climbs.{Onward, go, stay, going, onto, right-of, Forked, rise, rise-all, climb-runs}
+use Rattle.engine.proofs.Climbs.{Onward, go, stay, going, onto, right-of, Forked, rise, climb-runs}
 use Rattle.engine.proofs.Steps.{LeftFrom, tests, ready-on, kept}
 
 pub forked : (ns : List ℤ) (literals : List ℕ) → Accepted ns literals → Forked ns literals

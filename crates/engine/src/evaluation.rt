@@ -88,7 +88,17 @@ fn lookahead_in(positive: bool, l: Lookahead) -> Lookahead
 }
 
 // A line that opens no call and is no fork.
-fn terminal<'a>(nodes: &[i32], literals: &'a [u8], text: &'a [u8], tokens: &mut [u32], scratch: &mut [u32], capacity: usize, depth: usize, line: usize, s: ParserState) -> Ending
+fn terminal<'a>(
+    nodes: &[i32],
+    literals: &'a [u8],
+    text: &'a [u8],
+    tokens: &mut [u32],
+    scratch: &mut [u32],
+    capacity: usize,
+    depth: usize,
+    line: usize,
+    s: ParserState,
+) -> Ending
     requires { ⌜ Ready (now nodes) (now literals) (now text) (now tokens) (now scratch) capacity depth (view (now tokens) (now scratch) s) ⌝ }
     requires { ⌜ Line (now nodes) line × (Fork (kind-at (now nodes) line) → ⊥) × (opens-call (kind-at (now nodes) line) ≡ false) ⌝ }
     ensures { λ r. ⌜ view-end (now (tokens .exit)) (now (scratch .exit)) r ≡ evaluated (now (nodes .entry)) (now (literals .entry)) (now (text .entry)) capacity depth (tree-at (now (nodes .entry)) (now (literals .entry)) line) (view (now (tokens .entry)) (now (scratch .entry)) s) ⌝ }
@@ -115,7 +125,17 @@ fn terminal<'a>(nodes: &[i32], literals: &'a [u8], text: &'a [u8], tokens: &mut 
 
 // The line: kinds 6 and 7 are walked here. From the current line down by left sides; then, from the leftmost line up, each right
 // side whose left side ended as its kind asks; the top line's right side is the loop's next line.
-fn node<'a>(nodes: &[i32], literals: &'a [u8], text: &'a [u8], tokens: &mut [u32], scratch: &mut [u32], capacity: usize, depth: usize, line: usize, s: ParserState) -> Ending
+fn node<'a>(
+    nodes: &[i32],
+    literals: &'a [u8],
+    text: &'a [u8],
+    tokens: &mut [u32],
+    scratch: &mut [u32],
+    capacity: usize,
+    depth: usize,
+    line: usize,
+    s: ParserState,
+) -> Ending
     requires { ⌜ Ready (now nodes) (now literals) (now text) (now tokens) (now scratch) capacity depth (view (now tokens) (now scratch) s) ⌝ }
     requires { ⌜ Line (now nodes) line ⌝ }
     ensures { λ r. ⌜ view-end (now (tokens .exit)) (now (scratch .exit)) r ≡ evaluated (now (nodes .entry)) (now (literals .entry)) (now (text .entry)) capacity depth (tree-at (now (nodes .entry)) (now (literals .entry)) line) (view (now (tokens .entry)) (now (scratch .entry)) s) ⌝ }
@@ -126,10 +146,30 @@ fn node<'a>(nodes: &[i32], literals: &'a [u8], text: &'a [u8], tokens: &mut [u32
         let low = descend(nodes, at);
         let count = low.count;
         if count == 0 {
-            return simple(nodes, literals, text, tokens, scratch, capacity, depth, at, now);
+            return simple(
+                nodes,
+                literals,
+                text,
+                tokens,
+                scratch,
+                capacity,
+                depth,
+                at,
+                now,
+            );
         }
         let mut good = true;
-        match simple(nodes, literals, text, tokens, scratch, capacity, depth, low.line, now) {
+        match simple(
+            nodes,
+            literals,
+            text,
+            tokens,
+            scratch,
+            capacity,
+            depth,
+            low.line,
+            now,
+        ) {
             Ending::Ok(t) => {
                 now = t;
             }
@@ -147,7 +187,17 @@ fn node<'a>(nodes: &[i32], literals: &'a [u8], text: &'a [u8], tokens: &mut [u32
             let l = spine_at(nodes, at, i);
             let n = line_at(nodes, l);
             if goes_right(n.kind, good) {
-                match node(nodes, literals, text, tokens, scratch, capacity, depth, n.b, now) {
+                match node(
+                    nodes,
+                    literals,
+                    text,
+                    tokens,
+                    scratch,
+                    capacity,
+                    depth,
+                    n.b,
+                    now,
+                ) {
                     Ending::Ok(t) => {
                         now = t;
                         good = true;
@@ -172,21 +222,61 @@ fn node<'a>(nodes: &[i32], literals: &'a [u8], text: &'a [u8], tokens: &mut [u32
 }
 
 // A line that is no fork.
-fn simple<'a>(nodes: &[i32], literals: &'a [u8], text: &'a [u8], tokens: &mut [u32], scratch: &mut [u32], capacity: usize, depth: usize, line: usize, s: ParserState) -> Ending
+fn simple<'a>(
+    nodes: &[i32],
+    literals: &'a [u8],
+    text: &'a [u8],
+    tokens: &mut [u32],
+    scratch: &mut [u32],
+    capacity: usize,
+    depth: usize,
+    line: usize,
+    s: ParserState,
+) -> Ending
     requires { ⌜ Ready (now nodes) (now literals) (now text) (now tokens) (now scratch) capacity depth (view (now tokens) (now scratch) s) ⌝ }
     requires { ⌜ Line (now nodes) line × (Fork (kind-at (now nodes) line) → ⊥) ⌝ }
     ensures { λ r. ⌜ view-end (now (tokens .exit)) (now (scratch .exit)) r ≡ evaluated (now (nodes .entry)) (now (literals .entry)) (now (text .entry)) capacity depth (tree-at (now (nodes .entry)) (now (literals .entry)) line) (view (now (tokens .entry)) (now (scratch .entry)) s) ⌝ }
 {
     let n = line_at(nodes, line);
     if opens(n.kind) {
-        opened(nodes, literals, text, tokens, scratch, capacity, depth, line, s)
+        opened(
+            nodes,
+            literals,
+            text,
+            tokens,
+            scratch,
+            capacity,
+            depth,
+            line,
+            s,
+        )
     } else {
-        terminal(nodes, literals, text, tokens, scratch, capacity, depth, line, s)
+        terminal(
+            nodes,
+            literals,
+            text,
+            tokens,
+            scratch,
+            capacity,
+            depth,
+            line,
+            s,
+        )
     }
 }
 
 // A line that opens a call.
-fn opened<'a>(nodes: &[i32], literals: &'a [u8], text: &'a [u8], tokens: &mut [u32], scratch: &mut [u32], capacity: usize, depth: usize, line: usize, s: ParserState) -> Ending
+fn opened<'a>(
+    nodes: &[i32],
+    literals: &'a [u8],
+    text: &'a [u8],
+    tokens: &mut [u32],
+    scratch: &mut [u32],
+    capacity: usize,
+    depth: usize,
+    line: usize,
+    s: ParserState,
+) -> Ending
     requires { ⌜ Ready (now nodes) (now literals) (now text) (now tokens) (now scratch) capacity depth (view (now tokens) (now scratch) s) ⌝ }
     requires { ⌜ Line (now nodes) line × (opens-call (kind-at (now nodes) line) ≡ true) ⌝ }
     ensures { λ r. ⌜ view-end (now (tokens .exit)) (now (scratch .exit)) r ≡ evaluated (now (nodes .entry)) (now (literals .entry)) (now (text .entry)) capacity depth (tree-at (now (nodes .entry)) (now (literals .entry)) line) (view (now (tokens .entry)) (now (scratch .entry)) s) ⌝ }
@@ -194,23 +284,132 @@ fn opened<'a>(nodes: &[i32], literals: &'a [u8], text: &'a [u8], tokens: &mut [u
     let n = line_at(nodes, line);
     let kind = n.kind;
     match kind {
-        8 => rule(nodes, literals, text, tokens, scratch, capacity, depth, line, n.a, n.b, s),
-        9 => sequence(nodes, literals, text, tokens, scratch, capacity, depth, n.a, s),
-        10 => repeat(nodes, literals, text, tokens, scratch, capacity, depth, n.a, s),
-        11 => optional(nodes, literals, text, tokens, scratch, capacity, depth, n.a, s),
-        12 => lookahead(nodes, literals, text, tokens, scratch, capacity, depth, n.b == 1, n.a, s),
-        13 => atomic(nodes, literals, text, tokens, scratch, capacity, depth, atomicity_of(n.b), n.a, s),
-        14 => stack_push(nodes, literals, text, tokens, scratch, capacity, depth, line, n.a, s),
-        18 => restore_on_err(nodes, literals, text, tokens, scratch, capacity, depth, n.a, s),
+        8 => rule(
+            nodes,
+            literals,
+            text,
+            tokens,
+            scratch,
+            capacity,
+            depth,
+            line,
+            n.a,
+            n.b,
+            s,
+        ),
+        9 => sequence(
+            nodes,
+            literals,
+            text,
+            tokens,
+            scratch,
+            capacity,
+            depth,
+            n.a,
+            s,
+        ),
+        10 => repeat(
+            nodes,
+            literals,
+            text,
+            tokens,
+            scratch,
+            capacity,
+            depth,
+            n.a,
+            s,
+        ),
+        11 => optional(
+            nodes,
+            literals,
+            text,
+            tokens,
+            scratch,
+            capacity,
+            depth,
+            n.a,
+            s,
+        ),
+        12 => lookahead(
+            nodes,
+            literals,
+            text,
+            tokens,
+            scratch,
+            capacity,
+            depth,
+            n.b == 1,
+            n.a,
+            s,
+        ),
+        13 => atomic(
+            nodes,
+            literals,
+            text,
+            tokens,
+            scratch,
+            capacity,
+            depth,
+            atomicity_of(n.b),
+            n.a,
+            s,
+        ),
+        14 => stack_push(
+            nodes,
+            literals,
+            text,
+            tokens,
+            scratch,
+            capacity,
+            depth,
+            line,
+            n.a,
+            s,
+        ),
+        18 => restore_on_err(
+            nodes,
+            literals,
+            text,
+            tokens,
+            scratch,
+            capacity,
+            depth,
+            n.a,
+            s,
+        ),
         _ => {
             let m = line_at(nodes, n.a);
-            rule(nodes, literals, text, tokens, scratch, capacity, depth, n.a, m.a, m.b, s)
+            rule(
+                nodes,
+                literals,
+                text,
+                tokens,
+                scratch,
+                capacity,
+                depth,
+                n.a,
+                m.a,
+                m.b,
+                s,
+            )
         }
     }
 }
 
 // The rule `number` at `line`.
-fn rule<'a>(nodes: &[i32], literals: &'a [u8], text: &'a [u8], tokens: &mut [u32], scratch: &mut [u32], capacity: usize, depth: usize, line: usize, number: usize, body: usize, s: ParserState) -> Ending
+fn rule<'a>(
+    nodes: &[i32],
+    literals: &'a [u8],
+    text: &'a [u8],
+    tokens: &mut [u32],
+    scratch: &mut [u32],
+    capacity: usize,
+    depth: usize,
+    line: usize,
+    number: usize,
+    body: usize,
+    s: ParserState,
+) -> Ending
     requires { ⌜ Ready (now nodes) (now literals) (now text) (now tokens) (now scratch) capacity depth (view (now tokens) (now scratch) s) ⌝ }
     requires { ⌜ Line (now nodes) body × (line ≤ 4096) × (number ≤ 65535) ⌝ }
     ensures { λ r. ⌜ view-end (now (tokens .exit)) (now (scratch .exit)) r ≡ evaluated (now (nodes .entry)) (now (literals .entry)) (now (text .entry)) capacity depth (rule line number (tree-at (now (nodes .entry)) (now (literals .entry)) body)) (view (now (tokens .entry)) (now (scratch .entry)) s) ⌝ }
@@ -224,8 +423,28 @@ fn rule<'a>(nodes: &[i32], literals: &'a [u8], text: &'a [u8], tokens: &mut [u32
             let n = note(a, p);
             match start_rule(tokens, capacity, line as u32, t) {
                 Ending::Ok(u) => {
-                    let r = node(nodes, literals, text, tokens, scratch, capacity, depth - 1, body, u);
-                    rule_end(tokens, scratch, capacity, line as u32, number as u32, p, q, n, r)
+                    let r = node(
+                        nodes,
+                        literals,
+                        text,
+                        tokens,
+                        scratch,
+                        capacity,
+                        depth - 1,
+                        body,
+                        u,
+                    );
+                    rule_end(
+                        tokens,
+                        scratch,
+                        capacity,
+                        line as u32,
+                        number as u32,
+                        p,
+                        q,
+                        n,
+                        r,
+                    )
                 }
                 Ending::Err(u) => Ending::Err(u),
                 Ending::Stop(c) => Ending::Stop(c),
@@ -235,7 +454,17 @@ fn rule<'a>(nodes: &[i32], literals: &'a [u8], text: &'a [u8], tokens: &mut [u32
 }
 
 // pest's `sequence`.
-fn sequence<'a>(nodes: &[i32], literals: &'a [u8], text: &'a [u8], tokens: &mut [u32], scratch: &mut [u32], capacity: usize, depth: usize, body: usize, s: ParserState) -> Ending
+fn sequence<'a>(
+    nodes: &[i32],
+    literals: &'a [u8],
+    text: &'a [u8],
+    tokens: &mut [u32],
+    scratch: &mut [u32],
+    capacity: usize,
+    depth: usize,
+    body: usize,
+    s: ParserState,
+) -> Ending
     requires { ⌜ Ready (now nodes) (now literals) (now text) (now tokens) (now scratch) capacity depth (view (now tokens) (now scratch) s) ⌝ }
     requires { ⌜ Line (now nodes) body ⌝ }
     ensures { λ r. ⌜ view-end (now (tokens .exit)) (now (scratch .exit)) r ≡ evaluated (now (nodes .entry)) (now (literals .entry)) (now (text .entry)) capacity depth (sequence (tree-at (now (nodes .entry)) (now (literals .entry)) body)) (view (now (tokens .entry)) (now (scratch .entry)) s) ⌝ }
@@ -246,14 +475,34 @@ fn sequence<'a>(nodes: &[i32], literals: &'a [u8], text: &'a [u8], tokens: &mut 
             let p = t.position;
             let q = t.queue;
             let u = checkpoint(scratch, t);
-            let r = node(nodes, literals, text, tokens, scratch, capacity, depth - 1, body, u);
+            let r = node(
+                nodes,
+                literals,
+                text,
+                tokens,
+                scratch,
+                capacity,
+                depth - 1,
+                body,
+                u,
+            );
             sequence_end(scratch, p, q, r)
         }
     }
 }
 
 // pest's `repeat`. The body moves on Ok, so that the loop ends.
-fn repeat<'a>(nodes: &[i32], literals: &'a [u8], text: &'a [u8], tokens: &mut [u32], scratch: &mut [u32], capacity: usize, depth: usize, body: usize, s: ParserState) -> Ending
+fn repeat<'a>(
+    nodes: &[i32],
+    literals: &'a [u8],
+    text: &'a [u8],
+    tokens: &mut [u32],
+    scratch: &mut [u32],
+    capacity: usize,
+    depth: usize,
+    body: usize,
+    s: ParserState,
+) -> Ending
     requires { ⌜ Ready (now nodes) (now literals) (now text) (now tokens) (now scratch) capacity depth (view (now tokens) (now scratch) s) ⌝ }
     requires { ⌜ Line (now nodes) body × (nullable (now nodes) body ≡ false) ⌝ }
     ensures { λ r. ⌜ view-end (now (tokens .exit)) (now (scratch .exit)) r ≡ evaluated (now (nodes .entry)) (now (literals .entry)) (now (text .entry)) capacity depth (repeat (tree-at (now (nodes .entry)) (now (literals .entry)) body)) (view (now (tokens .entry)) (now (scratch .entry)) s) ⌝ }
@@ -263,7 +512,17 @@ fn repeat<'a>(nodes: &[i32], literals: &'a [u8], text: &'a [u8], tokens: &mut [u
         Entry::Open(t) => {
             let mut at = t;
             loop {
-                match node(nodes, literals, text, tokens, scratch, capacity, depth - 1, body, at) {
+                match node(
+                    nodes,
+                    literals,
+                    text,
+                    tokens,
+                    scratch,
+                    capacity,
+                    depth - 1,
+                    body,
+                    at,
+                ) {
                     Ending::Ok(v) => {
                         at = v;
                     }
@@ -280,7 +539,17 @@ fn repeat<'a>(nodes: &[i32], literals: &'a [u8], text: &'a [u8], tokens: &mut [u
 }
 
 // pest's `optional`.
-fn optional<'a>(nodes: &[i32], literals: &'a [u8], text: &'a [u8], tokens: &mut [u32], scratch: &mut [u32], capacity: usize, depth: usize, body: usize, s: ParserState) -> Ending
+fn optional<'a>(
+    nodes: &[i32],
+    literals: &'a [u8],
+    text: &'a [u8],
+    tokens: &mut [u32],
+    scratch: &mut [u32],
+    capacity: usize,
+    depth: usize,
+    body: usize,
+    s: ParserState,
+) -> Ending
     requires { ⌜ Ready (now nodes) (now literals) (now text) (now tokens) (now scratch) capacity depth (view (now tokens) (now scratch) s) ⌝ }
     requires { ⌜ Line (now nodes) body ⌝ }
     ensures { λ r. ⌜ view-end (now (tokens .exit)) (now (scratch .exit)) r ≡ evaluated (now (nodes .entry)) (now (literals .entry)) (now (text .entry)) capacity depth (optional (tree-at (now (nodes .entry)) (now (literals .entry)) body)) (view (now (tokens .entry)) (now (scratch .entry)) s) ⌝ }
@@ -288,14 +557,35 @@ fn optional<'a>(nodes: &[i32], literals: &'a [u8], text: &'a [u8], tokens: &mut 
     match enter(s, true, depth) {
         Entry::Refused(t) => Ending::Err(t),
         Entry::Open(t) => {
-            let r = node(nodes, literals, text, tokens, scratch, capacity, depth - 1, body, t);
+            let r = node(
+                nodes,
+                literals,
+                text,
+                tokens,
+                scratch,
+                capacity,
+                depth - 1,
+                body,
+                t,
+            );
             optional_end(r)
         }
     }
 }
 
 // pest's `lookahead`.
-fn lookahead<'a>(nodes: &[i32], literals: &'a [u8], text: &'a [u8], tokens: &mut [u32], scratch: &mut [u32], capacity: usize, depth: usize, positive: bool, body: usize, s: ParserState) -> Ending
+fn lookahead<'a>(
+    nodes: &[i32],
+    literals: &'a [u8],
+    text: &'a [u8],
+    tokens: &mut [u32],
+    scratch: &mut [u32],
+    capacity: usize,
+    depth: usize,
+    positive: bool,
+    body: usize,
+    s: ParserState,
+) -> Ending
     requires { ⌜ Ready (now nodes) (now literals) (now text) (now tokens) (now scratch) capacity depth (view (now tokens) (now scratch) s) ⌝ }
     requires { ⌜ Line (now nodes) body ⌝ }
     ensures { λ r. ⌜ view-end (now (tokens .exit)) (now (scratch .exit)) r ≡ evaluated (now (nodes .entry)) (now (literals .entry)) (now (text .entry)) capacity depth (lookahead positive (tree-at (now (nodes .entry)) (now (literals .entry)) body)) (view (now (tokens .entry)) (now (scratch .entry)) s) ⌝ }
@@ -311,14 +601,35 @@ fn lookahead<'a>(nodes: &[i32], literals: &'a [u8], text: &'a [u8], tokens: &mut
                 ..t
             };
             let u = checkpoint(scratch, looking);
-            let r = node(nodes, literals, text, tokens, scratch, capacity, depth - 1, body, u);
+            let r = node(
+                nodes,
+                literals,
+                text,
+                tokens,
+                scratch,
+                capacity,
+                depth - 1,
+                body,
+                u,
+            );
             lookahead_end(scratch, positive, l, p, r)
         }
     }
 }
 
 // pest's `atomic`.
-fn atomic<'a>(nodes: &[i32], literals: &'a [u8], text: &'a [u8], tokens: &mut [u32], scratch: &mut [u32], capacity: usize, depth: usize, atomicity: Atomicity, body: usize, s: ParserState) -> Ending
+fn atomic<'a>(
+    nodes: &[i32],
+    literals: &'a [u8],
+    text: &'a [u8],
+    tokens: &mut [u32],
+    scratch: &mut [u32],
+    capacity: usize,
+    depth: usize,
+    atomicity: Atomicity,
+    body: usize,
+    s: ParserState,
+) -> Ending
     requires { ⌜ Ready (now nodes) (now literals) (now text) (now tokens) (now scratch) capacity depth (view (now tokens) (now scratch) s) ⌝ }
     requires { ⌜ Line (now nodes) body ⌝ }
     ensures { λ r. ⌜ view-end (now (tokens .exit)) (now (scratch .exit)) r ≡ evaluated (now (nodes .entry)) (now (literals .entry)) (now (text .entry)) capacity depth (atomic atomicity (tree-at (now (nodes .entry)) (now (literals .entry)) body)) (view (now (tokens .entry)) (now (scratch .entry)) s) ⌝ }
@@ -331,14 +642,35 @@ fn atomic<'a>(nodes: &[i32], literals: &'a [u8], text: &'a [u8], tokens: &mut [u
                 atomicity: atomicity,
                 ..t
             };
-            let r = node(nodes, literals, text, tokens, scratch, capacity, depth - 1, body, u);
+            let r = node(
+                nodes,
+                literals,
+                text,
+                tokens,
+                scratch,
+                capacity,
+                depth - 1,
+                body,
+                u,
+            );
             atomic_end(before, r)
         }
     }
 }
 
 // pest's `stack_push`.
-fn stack_push<'a>(nodes: &[i32], literals: &'a [u8], text: &'a [u8], tokens: &mut [u32], scratch: &mut [u32], capacity: usize, depth: usize, line: usize, body: usize, s: ParserState) -> Ending
+fn stack_push<'a>(
+    nodes: &[i32],
+    literals: &'a [u8],
+    text: &'a [u8],
+    tokens: &mut [u32],
+    scratch: &mut [u32],
+    capacity: usize,
+    depth: usize,
+    line: usize,
+    body: usize,
+    s: ParserState,
+) -> Ending
     requires { ⌜ Ready (now nodes) (now literals) (now text) (now tokens) (now scratch) capacity depth (view (now tokens) (now scratch) s) ⌝ }
     requires { ⌜ Line (now nodes) body × (line ≤ 4096) ⌝ }
     ensures { λ r. ⌜ view-end (now (tokens .exit)) (now (scratch .exit)) r ≡ evaluated (now (nodes .entry)) (now (literals .entry)) (now (text .entry)) capacity depth (stack-push line (tree-at (now (nodes .entry)) (now (literals .entry)) body)) (view (now (tokens .entry)) (now (scratch .entry)) s) ⌝ }
@@ -347,14 +679,34 @@ fn stack_push<'a>(nodes: &[i32], literals: &'a [u8], text: &'a [u8], tokens: &mu
         Entry::Refused(t) => Ending::Err(t),
         Entry::Open(t) => {
             let p = t.position;
-            let r = node(nodes, literals, text, tokens, scratch, capacity, depth - 1, body, t);
+            let r = node(
+                nodes,
+                literals,
+                text,
+                tokens,
+                scratch,
+                capacity,
+                depth - 1,
+                body,
+                t,
+            );
             push_end(scratch, line as u32, p, r)
         }
     }
 }
 
 // pest's `restore_on_err`: its entry is not counted.
-fn restore_on_err<'a>(nodes: &[i32], literals: &'a [u8], text: &'a [u8], tokens: &mut [u32], scratch: &mut [u32], capacity: usize, depth: usize, body: usize, s: ParserState) -> Ending
+fn restore_on_err<'a>(
+    nodes: &[i32],
+    literals: &'a [u8],
+    text: &'a [u8],
+    tokens: &mut [u32],
+    scratch: &mut [u32],
+    capacity: usize,
+    depth: usize,
+    body: usize,
+    s: ParserState,
+) -> Ending
     requires { ⌜ Ready (now nodes) (now literals) (now text) (now tokens) (now scratch) capacity depth (view (now tokens) (now scratch) s) ⌝ }
     requires { ⌜ Line (now nodes) body ⌝ }
     ensures { λ r. ⌜ view-end (now (tokens .exit)) (now (scratch .exit)) r ≡ evaluated (now (nodes .entry)) (now (literals .entry)) (now (text .entry)) capacity depth (restore-on-err (tree-at (now (nodes .entry)) (now (literals .entry)) body)) (view (now (tokens .entry)) (now (scratch .entry)) s) ⌝ }
@@ -363,7 +715,17 @@ fn restore_on_err<'a>(nodes: &[i32], literals: &'a [u8], text: &'a [u8], tokens:
         Entry::Refused(t) => Ending::Err(t),
         Entry::Open(t) => {
             let u = checkpoint(scratch, t);
-            let r = node(nodes, literals, text, tokens, scratch, capacity, depth - 1, body, u);
+            let r = node(
+                nodes,
+                literals,
+                text,
+                tokens,
+                scratch,
+                capacity,
+                depth - 1,
+                body,
+                u,
+            );
             restore_on_err_end(scratch, r)
         }
     }

@@ -1,196 +1,265 @@
--- The needs of `opened`. Assumes nothing.
-use borrow.Author.Needs.{needs}
+-- In each arm the kind is known, and so is the tree; the last kind is a call, which is its rule.
 use Prim.Native.Nat.{ℕ}
 use Rattle.engine.proofs.evaluation.opened.Reads as opened
 use Rattle.engine.proofs.evaluation.+atomic+lookahead+node+opened+optional+repeat+restore_on_err+rule+sequence+simple+stack_push.Lts-opened as opened-lts
 use Rattle.engine.proofs.evaluation.+atomic+lookahead+node+opened+optional+repeat+restore_on_err+rule+sequence+simple+stack_push.Proof.Measures.{opened-at, opened-calls}
-use mathlib.Core.Path.{_≡_, refl, ap, sym, _∙_}
-use mathlib.Core.Bool.{true, false}
-use Prim.Native.Nat.{_+_, _-_, _*_, _≤_, _<_}
-use lib.Dec.{ltb}
-use lib.ListN.{length}
+use mathlib.Core.Path.{_∙_}
 use native.Mathlib.Omega.{arith}
-use Rattle.engine.specs.Areas.{view, view-end}
-use Rattle.engine.specs.Entry.{opened, entering}
-use Rattle.engine.specs.Evaluation.{setting-of, Ready, Line, evaluated}
 use Rattle.engine.proofs.Steps.{tests}
-use Rattle.engine.proofs.LineSteps.{whole, few, call-of, at-8, at-9, at-10, moves-10, at-11, at-12, at-13, at-14, at-18, called, called-line, call-rule, at-20, call-is, by-tree}
+use Rattle.engine.proofs.LineSteps.{whole, few, call-of, at-8, at-9, at-10, moves-10, at-11, at-12, at-13, at-14, at-18, called-line, call-rule, at-20, call-is, by-tree}
 
 module _ (t : ℕ) where
   line-at-requires : opened-lts.Need-line-at-requires (opened-calls t) (opened-at t) opened.Post
-  line-at-requires c κs = 
+  line-at-requires c κs =
       let S = c .before .before .before .before in
-      whole (S .args .nodes .now) (S .args .literals .now) (tests (S .args .nodes .now) (S .args .literals .now) (S .args .text .now) (S .args .capacity) (S .pre .1 .0)) (S .args .line) (S .pre .1 .1 .0)
+      whole _ _ (tests _ _ _ _ (S .pre .1 .0)) _ (S .pre .1 .1 .0)
 
   rule-requires : opened-lts.Need-rule-requires (opened-calls t) (opened-at t) opened.Post
-  rule-requires c κs = 
+  rule-requires c κs =
+      let at-line-at = c .before .before .before in
       let S = c .before .before .before .before .before .before .before .before in
       let m = S .pre .0 in
-      let w = at-8 (S .args .nodes .now) (S .args .literals .now) (tests (S .args .nodes .now) (S .args .literals .now) (S .args .text .now) (S .args .capacity) (S .pre .1 .0)) (S .args .line) (S .pre .1 .1 .0) (c .before .before .before .line-at .result) (c .before .before .before .line-at .ensures) (c .before .before .match .keys1) in
-      (omega arith, ((S .pre .1 .0), (w .0, few (S .args .nodes .now) (S .args .literals .now) (tests (S .args .nodes .now) (S .args .literals .now) (S .args .text .now) (S .args .capacity) (S .pre .1 .0)) (S .args .line) (S .pre .1 .1 .0), w .1)))
+      let w = at-8 _ _ (tests _ _ _ _ (S .pre .1 .0)) _ (S .pre .1 .1 .0) _ (at-line-at .line-at .ensures) (c .before .before .match .keys1) in
+      (omega arith, ((S .pre .1 .0), (w .0, few _ _ (tests _ _ _ _ (S .pre .1 .0)) _ (S .pre .1 .1 .0), w .1)))
 
   sequence-requires : opened-lts.Need-sequence-requires (opened-calls t) (opened-at t) opened.Post
-  sequence-requires c κs = 
+  sequence-requires c κs =
+      let at-line-at = c .before .before .before in
       let S = c .before .before .before .before .before .before .before .before in
       let m = S .pre .0 in
-      let w = at-9 (S .args .nodes .now) (S .args .literals .now) (tests (S .args .nodes .now) (S .args .literals .now) (S .args .text .now) (S .args .capacity) (S .pre .1 .0)) (S .args .line) (S .pre .1 .1 .0) (c .before .before .before .line-at .result) (c .before .before .before .line-at .ensures) (c .before .before .match .keys2) in
+      let w = at-9 _ _ (tests _ _ _ _ (S .pre .1 .0)) _ (S .pre .1 .1 .0) _ (at-line-at .line-at .ensures) (c .before .before .match .keys2) in
       (omega arith, ((S .pre .1 .0), w .0))
 
   repeat-requires : opened-lts.Need-repeat-requires (opened-calls t) (opened-at t) opened.Post
-  repeat-requires c κs = 
+  repeat-requires c κs =
+      let at-line-at = c .before .before .before in
       let S = c .before .before .before .before .before .before .before .before in
       let m = S .pre .0 in
-      let w = at-10 (S .args .nodes .now) (S .args .literals .now) (tests (S .args .nodes .now) (S .args .literals .now) (S .args .text .now) (S .args .capacity) (S .pre .1 .0)) (S .args .line) (S .pre .1 .1 .0) (c .before .before .before .line-at .result) (c .before .before .before .line-at .ensures) (c .before .before .match .keys3) in
-      (omega arith, ((S .pre .1 .0), (w .0, moves-10 (S .args .nodes .now) (S .args .literals .now) (tests (S .args .nodes .now) (S .args .literals .now) (S .args .text .now) (S .args .capacity) (S .pre .1 .0)) (S .args .line) (S .pre .1 .1 .0) (c .before .before .before .line-at .result) (c .before .before .before .line-at .ensures) (c .before .before .match .keys3))))
+      let w = at-10 _ _ (tests _ _ _ _ (S .pre .1 .0)) _ (S .pre .1 .1 .0) _ (at-line-at .line-at .ensures) (c .before .before .match .keys3) in
+      (omega arith, ((S .pre .1 .0), (w .0, moves-10 _ _ (tests _ _ _ _ (S .pre .1 .0)) _ (S .pre .1 .1 .0) _ (at-line-at .line-at .ensures) (c .before .before .match .keys3))))
 
   optional-requires : opened-lts.Need-optional-requires (opened-calls t) (opened-at t) opened.Post
-  optional-requires c κs = 
+  optional-requires c κs =
+      let at-line-at = c .before .before .before in
       let S = c .before .before .before .before .before .before .before .before in
       let m = S .pre .0 in
-      let w = at-11 (S .args .nodes .now) (S .args .literals .now) (tests (S .args .nodes .now) (S .args .literals .now) (S .args .text .now) (S .args .capacity) (S .pre .1 .0)) (S .args .line) (S .pre .1 .1 .0) (c .before .before .before .line-at .result) (c .before .before .before .line-at .ensures) (c .before .before .match .keys4) in
+      let w = at-11 _ _ (tests _ _ _ _ (S .pre .1 .0)) _ (S .pre .1 .1 .0) _ (at-line-at .line-at .ensures) (c .before .before .match .keys4) in
       (omega arith, ((S .pre .1 .0), w .0))
 
   lookahead-requires : opened-lts.Need-lookahead-requires (opened-calls t) (opened-at t) opened.Post
-  lookahead-requires c κs = 
+  lookahead-requires c κs =
+      let at-match = c .before .before .before in
+      let at-line-at = c .before .before .before .before in
       let S = c .before .before .before .before .before .before .before .before .before in
       let m = S .pre .0 in
-      let w = at-12 (S .args .nodes .now) (S .args .literals .now) (tests (S .args .nodes .now) (S .args .literals .now) (S .args .text .now) (S .args .capacity) (S .pre .1 .0)) (S .args .line) (S .pre .1 .1 .0) (c .before .before .before .before .line-at .result) (c .before .before .before .before .line-at .ensures) (c .before .before .before .match .keys5) in
+      let w = at-12 _ _ (tests _ _ _ _ (S .pre .1 .0)) _ (S .pre .1 .1 .0) _ (at-line-at .line-at .ensures) (at-match .match .keys5) in
       (omega arith, ((S .pre .1 .0), w .0))
 
   atomicity-of-requires : opened-lts.Need-atomicity-of-requires (opened-calls t) (opened-at t) opened.Post
   atomicity-of-requires c κs = tt
 
   atomic-requires : opened-lts.Need-atomic-requires (opened-calls t) (opened-at t) opened.Post
-  atomic-requires c κs = 
+  atomic-requires c κs =
+      let at-match = c .before .before .before in
+      let at-line-at = c .before .before .before .before in
       let S = c .before .before .before .before .before .before .before .before .before in
       let m = S .pre .0 in
-      let w = at-13 (S .args .nodes .now) (S .args .literals .now) (tests (S .args .nodes .now) (S .args .literals .now) (S .args .text .now) (S .args .capacity) (S .pre .1 .0)) (S .args .line) (S .pre .1 .1 .0) (c .before .before .before .before .line-at .result) (c .before .before .before .before .line-at .ensures) (c .atomicity-of .result) (c .atomicity-of .ensures) (c .before .before .before .match .keys6) in
+      let w = at-13 _ _ (tests _ _ _ _ (S .pre .1 .0)) _ (S .pre .1 .1 .0) _ (at-line-at .line-at .ensures) _ (c .atomicity-of .ensures) (at-match .match .keys6) in
       (omega arith, ((S .pre .1 .0), w .0))
 
   stack-push-requires : opened-lts.Need-stack-push-requires (opened-calls t) (opened-at t) opened.Post
-  stack-push-requires c κs = 
+  stack-push-requires c κs =
+      let at-line-at = c .before .before .before in
       let S = c .before .before .before .before .before .before .before .before in
       let m = S .pre .0 in
-      let w = at-14 (S .args .nodes .now) (S .args .literals .now) (tests (S .args .nodes .now) (S .args .literals .now) (S .args .text .now) (S .args .capacity) (S .pre .1 .0)) (S .args .line) (S .pre .1 .1 .0) (c .before .before .before .line-at .result) (c .before .before .before .line-at .ensures) (c .before .before .match .keys7) in
-      (omega arith, ((S .pre .1 .0), (w .0, few (S .args .nodes .now) (S .args .literals .now) (tests (S .args .nodes .now) (S .args .literals .now) (S .args .text .now) (S .args .capacity) (S .pre .1 .0)) (S .args .line) (S .pre .1 .1 .0))))
+      let w = at-14 _ _ (tests _ _ _ _ (S .pre .1 .0)) _ (S .pre .1 .1 .0) _ (at-line-at .line-at .ensures) (c .before .before .match .keys7) in
+      (omega arith, ((S .pre .1 .0), (w .0, few _ _ (tests _ _ _ _ (S .pre .1 .0)) _ (S .pre .1 .1 .0))))
 
   restore-on-err-requires : opened-lts.Need-restore-on-err-requires (opened-calls t) (opened-at t) opened.Post
-  restore-on-err-requires c κs = 
+  restore-on-err-requires c κs =
+      let at-line-at = c .before .before .before in
       let S = c .before .before .before .before .before .before .before .before in
       let m = S .pre .0 in
-      let w = at-18 (S .args .nodes .now) (S .args .literals .now) (tests (S .args .nodes .now) (S .args .literals .now) (S .args .text .now) (S .args .capacity) (S .pre .1 .0)) (S .args .line) (S .pre .1 .1 .0) (c .before .before .before .line-at .result) (c .before .before .before .line-at .ensures) (c .before .before .match .keys8) in
+      let w = at-18 _ _ (tests _ _ _ _ (S .pre .1 .0)) _ (S .pre .1 .1 .0) _ (at-line-at .line-at .ensures) (c .before .before .match .keys8) in
       (omega arith, ((S .pre .1 .0), w .0))
 
   line-at-requires-2 : opened-lts.Need-line-at-requires-2 (opened-calls t) (opened-at t) opened.Post
-  line-at-requires-2 c κs = 
+  line-at-requires-2 c κs =
       let S = c .before .before .before .before .before .before in
-      whole (S .args .nodes .now) (S .args .literals .now) (tests (S .args .nodes .now) (S .args .literals .now) (S .args .text .now) (S .args .capacity) (S .pre .1 .0)) _ (called-line (S .args .nodes .now) (S .args .literals .now) (tests (S .args .nodes .now) (S .args .literals .now) (S .args .text .now) (S .args .capacity) (S .pre .1 .0)) (S .args .line) (S .pre .1 .1 .0) (c .before .line-at .result) (c .before .line-at .ensures) (call-of (S .args .nodes .now) (S .args .literals .now) (tests (S .args .nodes .now) (S .args .literals .now) (S .args .text .now) (S .args .capacity) (S .pre .1 .0)) (S .args .line) (S .pre .1 .1 .0) (c .before .line-at .result) (c .before .line-at .ensures) (S .pre .1 .1 .1) (c .match .rest)))
+      whole _ _ (tests _ _ _ _ (S .pre .1 .0)) _ (called-line _ _ (tests _ _ _ _ (S .pre .1 .0)) _ (S .pre .1 .1 .0) _ (c .before .line-at .ensures) (call-of _ _ (tests _ _ _ _ (S .pre .1 .0)) _ (S .pre .1 .1 .0) _ (c .before .line-at .ensures) (S .pre .1 .1 .1) (c .match .rest)))
 
   rule-requires-2 : opened-lts.Need-rule-requires-2 (opened-calls t) (opened-at t) opened.Post
-  rule-requires-2 c κs = 
+  rule-requires-2 c κs =
+      let at-match = c .before .before .before in
+      let at-line-at = c .before .before .before .before in
       let S = c .before .before .before .before .before .before .before .before .before in
       let m = S .pre .0 in
-      let w = (call-rule (S .args .nodes .now) (S .args .literals .now) (tests (S .args .nodes .now) (S .args .literals .now) (S .args .text .now) (S .args .capacity) (S .pre .1 .0)) (S .args .line) (S .pre .1 .1 .0) (c .before .before .before .before .line-at .result) (c .before .before .before .before .line-at .ensures) (call-of (S .args .nodes .now) (S .args .literals .now) (tests (S .args .nodes .now) (S .args .literals .now) (S .args .text .now) (S .args .capacity) (S .pre .1 .0)) (S .args .line) (S .pre .1 .1 .0) (c .before .before .before .before .line-at .result) (c .before .before .before .before .line-at .ensures) (S .pre .1 .1 .1) (c .before .before .before .match .rest)) (c .before .before .line-at2 .result) (c .before .before .line-at2 .ensures)) in
-      (omega arith, ((S .pre .1 .0), (w .0, few (S .args .nodes .now) (S .args .literals .now) (tests (S .args .nodes .now) (S .args .literals .now) (S .args .text .now) (S .args .capacity) (S .pre .1 .0)) _ (called-line (S .args .nodes .now) (S .args .literals .now) (tests (S .args .nodes .now) (S .args .literals .now) (S .args .text .now) (S .args .capacity) (S .pre .1 .0)) (S .args .line) (S .pre .1 .1 .0) (c .before .before .before .before .line-at .result) (c .before .before .before .before .line-at .ensures) (call-of (S .args .nodes .now) (S .args .literals .now) (tests (S .args .nodes .now) (S .args .literals .now) (S .args .text .now) (S .args .capacity) (S .pre .1 .0)) (S .args .line) (S .pre .1 .1 .0) (c .before .before .before .before .line-at .result) (c .before .before .before .before .line-at .ensures) (S .pre .1 .1 .1) (c .before .before .before .match .rest))), w .1)))
+      let w = (call-rule _ _ (tests _ _ _ _ (S .pre .1 .0)) _ (S .pre .1 .1 .0) _ (at-line-at .line-at .ensures) (call-of _ _ (tests _ _ _ _ (S .pre .1 .0)) _ (S .pre .1 .1 .0) _ (at-line-at .line-at .ensures) (S .pre .1 .1 .1) (at-match .match .rest)) _ (c .before .before .line-at2 .ensures)) in
+      (omega arith, ((S .pre .1 .0), (w .0, few _ _ (tests _ _ _ _ (S .pre .1 .0)) _ (called-line _ _ (tests _ _ _ _ (S .pre .1 .0)) _ (S .pre .1 .1 .0) _ (at-line-at .line-at .ensures) (call-of _ _ (tests _ _ _ _ (S .pre .1 .0)) _ (S .pre .1 .1 .0) _ (at-line-at .line-at .ensures) (S .pre .1 .1 .1) (at-match .match .rest))), w .1)))
 
   same-length : opened-lts.Need-same-length (opened-calls t) (opened-at t) opened.Post
-  same-length c = c .before .before .before .before .rule .kept .1 .1 .1 .0
+  same-length c =
+      let at-rule = c .before .before .before .before in
+      at-rule .rule .kept .1 .1 .1 .0
 
   same-length-2 : opened-lts.Need-same-length-2 (opened-calls t) (opened-at t) opened.Post
-  same-length-2 c = c .before .before .before .before .rule .kept .1 .1 .1 .1 .0
+  same-length-2 c =
+      let at-rule = c .before .before .before .before in
+      at-rule .rule .kept .1 .1 .1 .1 .0
 
   returns : opened-lts.Need-returns (opened-calls t) (opened-at t) opened.Post
-  returns c = 
+  returns c =
+      let at-rule = c .before .before .before .before in
+      let at-match = c .before .before .before .before .before .before .before in
+      let at-line-at = c .before .before .before .before .before .before .before .before in
       let S = c .before .before .before .before .before .before .before .before .before .before .before .before .before in
-      by-tree (S .args .nodes .now) (S .args .literals .now) (S .args .text .now) (S .args .capacity) (S .args .depth) _ _ (view (S .args .tokens .now) (S .args .scratch .now) (S .args .s)) _ (at-8 (S .args .nodes .now) (S .args .literals .now) (tests (S .args .nodes .now) (S .args .literals .now) (S .args .text .now) (S .args .capacity) (S .pre .1 .0)) (S .args .line) (S .pre .1 .1 .0) (c .before .before .before .before .before .before .before .before .line-at .result) (c .before .before .before .before .before .before .before .before .line-at .ensures) (c .before .before .before .before .before .before .before .match .keys1) .2) (c .before .before .before .before .rule .ensures)
+      by-tree _ _ _ _ _ _ _ _ _ (at-8 _ _ (tests _ _ _ _ (S .pre .1 .0)) _ (S .pre .1 .1 .0) _ (at-line-at .line-at .ensures) (at-match .match .keys1) .2) (at-rule .rule .ensures)
 
   same-length-3 : opened-lts.Need-same-length-3 (opened-calls t) (opened-at t) opened.Post
-  same-length-3 c = c .before .before .before .before .sequence .kept .1 .1 .1 .0
+  same-length-3 c =
+      let at-sequence = c .before .before .before .before in
+      at-sequence .sequence .kept .1 .1 .1 .0
 
   same-length-4 : opened-lts.Need-same-length-4 (opened-calls t) (opened-at t) opened.Post
-  same-length-4 c = c .before .before .before .before .sequence .kept .1 .1 .1 .1 .0
+  same-length-4 c =
+      let at-sequence = c .before .before .before .before in
+      at-sequence .sequence .kept .1 .1 .1 .1 .0
 
   returns-2 : opened-lts.Need-returns-2 (opened-calls t) (opened-at t) opened.Post
-  returns-2 c = 
+  returns-2 c =
+      let at-sequence = c .before .before .before .before in
+      let at-match = c .before .before .before .before .before .before .before in
+      let at-line-at = c .before .before .before .before .before .before .before .before in
       let S = c .before .before .before .before .before .before .before .before .before .before .before .before .before in
-      by-tree (S .args .nodes .now) (S .args .literals .now) (S .args .text .now) (S .args .capacity) (S .args .depth) _ _ (view (S .args .tokens .now) (S .args .scratch .now) (S .args .s)) _ (at-9 (S .args .nodes .now) (S .args .literals .now) (tests (S .args .nodes .now) (S .args .literals .now) (S .args .text .now) (S .args .capacity) (S .pre .1 .0)) (S .args .line) (S .pre .1 .1 .0) (c .before .before .before .before .before .before .before .before .line-at .result) (c .before .before .before .before .before .before .before .before .line-at .ensures) (c .before .before .before .before .before .before .before .match .keys2) .1) (c .before .before .before .before .sequence .ensures)
+      by-tree _ _ _ _ _ _ _ _ _ (at-9 _ _ (tests _ _ _ _ (S .pre .1 .0)) _ (S .pre .1 .1 .0) _ (at-line-at .line-at .ensures) (at-match .match .keys2) .1) (at-sequence .sequence .ensures)
 
   same-length-5 : opened-lts.Need-same-length-5 (opened-calls t) (opened-at t) opened.Post
-  same-length-5 c = c .before .before .before .before .repeat .kept .1 .1 .1 .0
+  same-length-5 c =
+      let at-repeat = c .before .before .before .before in
+      at-repeat .repeat .kept .1 .1 .1 .0
 
   same-length-6 : opened-lts.Need-same-length-6 (opened-calls t) (opened-at t) opened.Post
-  same-length-6 c = c .before .before .before .before .repeat .kept .1 .1 .1 .1 .0
+  same-length-6 c =
+      let at-repeat = c .before .before .before .before in
+      at-repeat .repeat .kept .1 .1 .1 .1 .0
 
   returns-3 : opened-lts.Need-returns-3 (opened-calls t) (opened-at t) opened.Post
-  returns-3 c = 
+  returns-3 c =
+      let at-repeat = c .before .before .before .before in
+      let at-match = c .before .before .before .before .before .before .before in
+      let at-line-at = c .before .before .before .before .before .before .before .before in
       let S = c .before .before .before .before .before .before .before .before .before .before .before .before .before in
-      by-tree (S .args .nodes .now) (S .args .literals .now) (S .args .text .now) (S .args .capacity) (S .args .depth) _ _ (view (S .args .tokens .now) (S .args .scratch .now) (S .args .s)) _ (at-10 (S .args .nodes .now) (S .args .literals .now) (tests (S .args .nodes .now) (S .args .literals .now) (S .args .text .now) (S .args .capacity) (S .pre .1 .0)) (S .args .line) (S .pre .1 .1 .0) (c .before .before .before .before .before .before .before .before .line-at .result) (c .before .before .before .before .before .before .before .before .line-at .ensures) (c .before .before .before .before .before .before .before .match .keys3) .1) (c .before .before .before .before .repeat .ensures)
+      by-tree _ _ _ _ _ _ _ _ _ (at-10 _ _ (tests _ _ _ _ (S .pre .1 .0)) _ (S .pre .1 .1 .0) _ (at-line-at .line-at .ensures) (at-match .match .keys3) .1) (at-repeat .repeat .ensures)
 
   same-length-7 : opened-lts.Need-same-length-7 (opened-calls t) (opened-at t) opened.Post
-  same-length-7 c = c .before .before .before .before .optional .kept .1 .1 .1 .0
+  same-length-7 c =
+      let at-optional = c .before .before .before .before in
+      at-optional .optional .kept .1 .1 .1 .0
 
   same-length-8 : opened-lts.Need-same-length-8 (opened-calls t) (opened-at t) opened.Post
-  same-length-8 c = c .before .before .before .before .optional .kept .1 .1 .1 .1 .0
+  same-length-8 c =
+      let at-optional = c .before .before .before .before in
+      at-optional .optional .kept .1 .1 .1 .1 .0
 
   returns-4 : opened-lts.Need-returns-4 (opened-calls t) (opened-at t) opened.Post
-  returns-4 c = 
+  returns-4 c =
+      let at-optional = c .before .before .before .before in
+      let at-match = c .before .before .before .before .before .before .before in
+      let at-line-at = c .before .before .before .before .before .before .before .before in
       let S = c .before .before .before .before .before .before .before .before .before .before .before .before .before in
-      by-tree (S .args .nodes .now) (S .args .literals .now) (S .args .text .now) (S .args .capacity) (S .args .depth) _ _ (view (S .args .tokens .now) (S .args .scratch .now) (S .args .s)) _ (at-11 (S .args .nodes .now) (S .args .literals .now) (tests (S .args .nodes .now) (S .args .literals .now) (S .args .text .now) (S .args .capacity) (S .pre .1 .0)) (S .args .line) (S .pre .1 .1 .0) (c .before .before .before .before .before .before .before .before .line-at .result) (c .before .before .before .before .before .before .before .before .line-at .ensures) (c .before .before .before .before .before .before .before .match .keys4) .1) (c .before .before .before .before .optional .ensures)
+      by-tree _ _ _ _ _ _ _ _ _ (at-11 _ _ (tests _ _ _ _ (S .pre .1 .0)) _ (S .pre .1 .1 .0) _ (at-line-at .line-at .ensures) (at-match .match .keys4) .1) (at-optional .optional .ensures)
 
   same-length-9 : opened-lts.Need-same-length-9 (opened-calls t) (opened-at t) opened.Post
-  same-length-9 c = c .before .before .before .before .lookahead .kept .1 .1 .1 .0
+  same-length-9 c =
+      let at-lookahead = c .before .before .before .before in
+      at-lookahead .lookahead .kept .1 .1 .1 .0
 
   same-length-10 : opened-lts.Need-same-length-10 (opened-calls t) (opened-at t) opened.Post
-  same-length-10 c = c .before .before .before .before .lookahead .kept .1 .1 .1 .1 .0
+  same-length-10 c =
+      let at-lookahead = c .before .before .before .before in
+      at-lookahead .lookahead .kept .1 .1 .1 .1 .0
 
   returns-5 : opened-lts.Need-returns-5 (opened-calls t) (opened-at t) opened.Post
-  returns-5 c = 
+  returns-5 c =
+      let at-lookahead = c .before .before .before .before in
+      let at-match = c .before .before .before .before .before .before .before .before in
+      let at-line-at = c .before .before .before .before .before .before .before .before .before in
       let S = c .before .before .before .before .before .before .before .before .before .before .before .before .before .before in
-      by-tree (S .args .nodes .now) (S .args .literals .now) (S .args .text .now) (S .args .capacity) (S .args .depth) _ _ (view (S .args .tokens .now) (S .args .scratch .now) (S .args .s)) _ (at-12 (S .args .nodes .now) (S .args .literals .now) (tests (S .args .nodes .now) (S .args .literals .now) (S .args .text .now) (S .args .capacity) (S .pre .1 .0)) (S .args .line) (S .pre .1 .1 .0) (c .before .before .before .before .before .before .before .before .before .line-at .result) (c .before .before .before .before .before .before .before .before .before .line-at .ensures) (c .before .before .before .before .before .before .before .before .match .keys5) .1) (c .before .before .before .before .lookahead .ensures)
+      by-tree _ _ _ _ _ _ _ _ _ (at-12 _ _ (tests _ _ _ _ (S .pre .1 .0)) _ (S .pre .1 .1 .0) _ (at-line-at .line-at .ensures) (at-match .match .keys5) .1) (at-lookahead .lookahead .ensures)
 
   same-length-11 : opened-lts.Need-same-length-11 (opened-calls t) (opened-at t) opened.Post
-  same-length-11 c = c .before .before .before .before .atomic .kept .1 .1 .1 .0
+  same-length-11 c =
+      let at-atomic = c .before .before .before .before in
+      at-atomic .atomic .kept .1 .1 .1 .0
 
   same-length-12 : opened-lts.Need-same-length-12 (opened-calls t) (opened-at t) opened.Post
-  same-length-12 c = c .before .before .before .before .atomic .kept .1 .1 .1 .1 .0
+  same-length-12 c =
+      let at-atomic = c .before .before .before .before in
+      at-atomic .atomic .kept .1 .1 .1 .1 .0
 
   returns-6 : opened-lts.Need-returns-6 (opened-calls t) (opened-at t) opened.Post
-  returns-6 c = 
+  returns-6 c =
+      let at-atomic = c .before .before .before .before in
+      let at-atomicity-of = c .before .before .before .before .before in
+      let at-match = c .before .before .before .before .before .before .before .before in
+      let at-line-at = c .before .before .before .before .before .before .before .before .before in
       let S = c .before .before .before .before .before .before .before .before .before .before .before .before .before .before in
-      by-tree (S .args .nodes .now) (S .args .literals .now) (S .args .text .now) (S .args .capacity) (S .args .depth) _ _ (view (S .args .tokens .now) (S .args .scratch .now) (S .args .s)) _ (at-13 (S .args .nodes .now) (S .args .literals .now) (tests (S .args .nodes .now) (S .args .literals .now) (S .args .text .now) (S .args .capacity) (S .pre .1 .0)) (S .args .line) (S .pre .1 .1 .0) (c .before .before .before .before .before .before .before .before .before .line-at .result) (c .before .before .before .before .before .before .before .before .before .line-at .ensures) (c .before .before .before .before .before .atomicity-of .result) (c .before .before .before .before .before .atomicity-of .ensures) (c .before .before .before .before .before .before .before .before .match .keys6) .1) (c .before .before .before .before .atomic .ensures)
+      by-tree _ _ _ _ _ _ _ _ _ (at-13 _ _ (tests _ _ _ _ (S .pre .1 .0)) _ (S .pre .1 .1 .0) _ (at-line-at .line-at .ensures) _ (at-atomicity-of .atomicity-of .ensures) (at-match .match .keys6) .1) (at-atomic .atomic .ensures)
 
   same-length-13 : opened-lts.Need-same-length-13 (opened-calls t) (opened-at t) opened.Post
-  same-length-13 c = c .before .before .before .before .stack-push .kept .1 .1 .1 .0
+  same-length-13 c =
+      let at-stack-push = c .before .before .before .before in
+      at-stack-push .stack-push .kept .1 .1 .1 .0
 
   same-length-14 : opened-lts.Need-same-length-14 (opened-calls t) (opened-at t) opened.Post
-  same-length-14 c = c .before .before .before .before .stack-push .kept .1 .1 .1 .1 .0
+  same-length-14 c =
+      let at-stack-push = c .before .before .before .before in
+      at-stack-push .stack-push .kept .1 .1 .1 .1 .0
 
   returns-7 : opened-lts.Need-returns-7 (opened-calls t) (opened-at t) opened.Post
-  returns-7 c = 
+  returns-7 c =
+      let at-stack-push = c .before .before .before .before in
+      let at-match = c .before .before .before .before .before .before .before in
+      let at-line-at = c .before .before .before .before .before .before .before .before in
       let S = c .before .before .before .before .before .before .before .before .before .before .before .before .before in
-      by-tree (S .args .nodes .now) (S .args .literals .now) (S .args .text .now) (S .args .capacity) (S .args .depth) _ _ (view (S .args .tokens .now) (S .args .scratch .now) (S .args .s)) _ (at-14 (S .args .nodes .now) (S .args .literals .now) (tests (S .args .nodes .now) (S .args .literals .now) (S .args .text .now) (S .args .capacity) (S .pre .1 .0)) (S .args .line) (S .pre .1 .1 .0) (c .before .before .before .before .before .before .before .before .line-at .result) (c .before .before .before .before .before .before .before .before .line-at .ensures) (c .before .before .before .before .before .before .before .match .keys7) .1) (c .before .before .before .before .stack-push .ensures)
+      by-tree _ _ _ _ _ _ _ _ _ (at-14 _ _ (tests _ _ _ _ (S .pre .1 .0)) _ (S .pre .1 .1 .0) _ (at-line-at .line-at .ensures) (at-match .match .keys7) .1) (at-stack-push .stack-push .ensures)
 
   same-length-15 : opened-lts.Need-same-length-15 (opened-calls t) (opened-at t) opened.Post
-  same-length-15 c = c .before .before .before .before .restore-on-err .kept .1 .1 .1 .0
+  same-length-15 c =
+      let at-restore-on-err = c .before .before .before .before in
+      at-restore-on-err .restore-on-err .kept .1 .1 .1 .0
 
   same-length-16 : opened-lts.Need-same-length-16 (opened-calls t) (opened-at t) opened.Post
-  same-length-16 c = c .before .before .before .before .restore-on-err .kept .1 .1 .1 .1 .0
+  same-length-16 c =
+      let at-restore-on-err = c .before .before .before .before in
+      at-restore-on-err .restore-on-err .kept .1 .1 .1 .1 .0
 
   returns-8 : opened-lts.Need-returns-8 (opened-calls t) (opened-at t) opened.Post
-  returns-8 c = 
+  returns-8 c =
+      let at-restore-on-err = c .before .before .before .before in
+      let at-match = c .before .before .before .before .before .before .before in
+      let at-line-at = c .before .before .before .before .before .before .before .before in
       let S = c .before .before .before .before .before .before .before .before .before .before .before .before .before in
-      by-tree (S .args .nodes .now) (S .args .literals .now) (S .args .text .now) (S .args .capacity) (S .args .depth) _ _ (view (S .args .tokens .now) (S .args .scratch .now) (S .args .s)) _ (at-18 (S .args .nodes .now) (S .args .literals .now) (tests (S .args .nodes .now) (S .args .literals .now) (S .args .text .now) (S .args .capacity) (S .pre .1 .0)) (S .args .line) (S .pre .1 .1 .0) (c .before .before .before .before .before .before .before .before .line-at .result) (c .before .before .before .before .before .before .before .before .line-at .ensures) (c .before .before .before .before .before .before .before .match .keys8) .1) (c .before .before .before .before .restore-on-err .ensures)
+      by-tree _ _ _ _ _ _ _ _ _ (at-18 _ _ (tests _ _ _ _ (S .pre .1 .0)) _ (S .pre .1 .1 .0) _ (at-line-at .line-at .ensures) (at-match .match .keys8) .1) (at-restore-on-err .restore-on-err .ensures)
 
   same-length-17 : opened-lts.Need-same-length-17 (opened-calls t) (opened-at t) opened.Post
-  same-length-17 c = c .before .before .before .before .rule2 .kept .1 .1 .1 .0
+  same-length-17 c =
+      let at-rule2 = c .before .before .before .before in
+      at-rule2 .rule2 .kept .1 .1 .1 .0
 
   same-length-18 : opened-lts.Need-same-length-18 (opened-calls t) (opened-at t) opened.Post
-  same-length-18 c = c .before .before .before .before .rule2 .kept .1 .1 .1 .1 .0
+  same-length-18 c =
+      let at-rule2 = c .before .before .before .before in
+      at-rule2 .rule2 .kept .1 .1 .1 .1 .0
 
   returns-9 : opened-lts.Need-returns-9 (opened-calls t) (opened-at t) opened.Post
-  returns-9 c = 
+  returns-9 c =
+      let at-rule2 = c .before .before .before .before in
+      let at-line-at2 = c .before .before .before .before .before .before .before in
+      let at-match = c .before .before .before .before .before .before .before .before in
+      let at-line-at = c .before .before .before .before .before .before .before .before .before in
       let S = c .before .before .before .before .before .before .before .before .before .before .before .before .before .before in
-      by-tree (S .args .nodes .now) (S .args .literals .now) (S .args .text .now) (S .args .capacity) (S .args .depth) _ _ (view (S .args .tokens .now) (S .args .scratch .now) (S .args .s)) _ (at-20 (S .args .nodes .now) (S .args .literals .now) (tests (S .args .nodes .now) (S .args .literals .now) (S .args .text .now) (S .args .capacity) (S .pre .1 .0)) (S .args .line) (S .pre .1 .1 .0) (c .before .before .before .before .before .before .before .before .before .line-at .result) (c .before .before .before .before .before .before .before .before .before .line-at .ensures) (call-of (S .args .nodes .now) (S .args .literals .now) (tests (S .args .nodes .now) (S .args .literals .now) (S .args .text .now) (S .args .capacity) (S .pre .1 .0)) (S .args .line) (S .pre .1 .1 .0) (c .before .before .before .before .before .before .before .before .before .line-at .result) (c .before .before .before .before .before .before .before .before .before .line-at .ensures) (S .pre .1 .1 .1) (c .before .before .before .before .before .before .before .before .match .rest))) (c .before .before .before .before .rule2 .ensures ∙ call-is (S .args .nodes .now) (S .args .literals .now) (S .args .text .now) (S .args .capacity) (S .args .depth) _ (c .before .before .before .before .before .before .before .line-at2 .result) (c .before .before .before .before .before .before .before .line-at2 .ensures) (view (S .args .tokens .now) (S .args .scratch .now) (S .args .s)))
+      by-tree _ _ _ _ _ _ _ _ _ (at-20 _ _ (tests _ _ _ _ (S .pre .1 .0)) _ (S .pre .1 .1 .0) _ (at-line-at .line-at .ensures) (call-of _ _ (tests _ _ _ _ (S .pre .1 .0)) _ (S .pre .1 .1 .0) _ (at-line-at .line-at .ensures) (S .pre .1 .1 .1) (at-match .match .rest))) (at-rule2 .rule2 .ensures ∙ call-is _ _ _ _ _ _ _ (at-line-at2 .line-at2 .ensures) _)
 
 pub opened-closed : {M : Type 1} → (t : ℕ) → opened-lts.Closed (opened-calls t) (opened-at t) opened.Post M
 opened-closed t =

@@ -1,30 +1,50 @@
--- The needs of `restore-on-err`. Assumes nothing.
+-- As `sequence`, with an entry that is not counted.
 use borrow.Author.Needs.{needs}
 use Prim.Native.Nat.{ℕ}
 use Rattle.engine.proofs.evaluation.restore_on_err.Reads as restore-on-err
 use Rattle.engine.proofs.evaluation.+atomic+lookahead+node+opened+optional+repeat+restore_on_err+rule+sequence+simple+stack_push.Lts-restore_on_err as restore-on-err-lts
 use Rattle.engine.proofs.evaluation.+atomic+lookahead+node+opened+optional+repeat+restore_on_err+rule+sequence+simple+stack_push.Proof.Measures.{restore-on-err-at, restore-on-err-calls}
-use mathlib.Core.Path.{_≡_, refl, ap, sym, _∙_}
-use mathlib.Core.Bool.{true, false}
-use Prim.Native.Nat.{_+_, _-_, _*_, _≤_, _<_}
+use mathlib.Core.Path.{_≡_, _∙_}
+use mathlib.Core.Bool.{false}
+use Prim.Native.Nat.{_-_, _≤_}
 use lib.Dec.{ltb}
-use lib.ListN.{length}
 use native.Mathlib.Omega.{arith}
-use Rattle.engine.specs.Areas.{view, view-end}
+use Rattle.engine.specs.Areas.{view}
 use Rattle.engine.specs.Entry.{opened, entering}
-use Rattle.engine.specs.Evaluation.{setting-of, Ready, Line, evaluated}
+use Rattle.engine.specs.Evaluation.{Ready}
 use Rattle.engine.proofs.Steps.{told-entry, deep, down, tests, ready-open, mark-of, ready-marked, body-ready, restore-step, restore-refused}
 
 module _ (t : ℕ) where
-  -- the entry is open
-  entered : (c : restore-on-err-lts.After-t2 (restore-on-err-calls t) (restore-on-err-at t) restore-on-err.Post) → opened (view (c .before .before .before .before .before .before .before .args .tokens .now) (c .before .before .before .before .before .before .before .args .scratch .now) (c .t2 .given .0 .0)) ≡ entering (ltb 0 (c .before .before .before .before .before .before .before .args .depth)) false (view (c .before .before .before .before .before .before .before .args .tokens .now) (c .before .before .before .before .before .before .before .args .scratch .now) (c .before .before .before .before .before .before .before .args .s))
-  entered c = told-entry _ _ _ (c .before .before .enter .ensures) (c .t2 .given .1) (c .before .before .before .before .before .before .before .args .tokens .now) (c .before .before .before .before .before .before .before .args .scratch .now)
+  -- The entry is open.
+  entered : (c : restore-on-err-lts.After-t2 (restore-on-err-calls t) (restore-on-err-at t) restore-on-err.Post) →
+      let S = c .before .before .before .before .before .before .before in
+      opened (view (S .args .tokens .now) (S .args .scratch .now) (c .t2 .given .0 .0)) ≡ entering (ltb 0 (S .args .depth)) false (view (S .args .tokens .now) (S .args .scratch .now) (S .args .s))
+  entered c =
+      let S = c .before .before .before .before .before .before .before in
+      told-entry _ _ _ (c .before .before .enter .ensures) (c .t2 .given .1) (S .args .tokens .now) (S .args .scratch .now)
 
-  open-ready : (c : restore-on-err-lts.After-t2 (restore-on-err-calls t) (restore-on-err-at t) restore-on-err.Post) → Ready (c .before .before .before .before .before .before .before .args .nodes .now) (c .before .before .before .before .before .before .before .args .literals .now) (c .before .before .before .before .before .before .before .args .text .now) (c .before .before .before .before .before .before .before .args .tokens .now) (c .before .before .before .before .before .before .before .args .scratch .now) (c .before .before .before .before .before .before .before .args .capacity) (c .before .before .before .before .before .before .before .args .depth) (view (c .before .before .before .before .before .before .before .args .tokens .now) (c .before .before .before .before .before .before .before .args .scratch .now) (c .t2 .given .0 .0))
-  open-ready c = ready-open (c .before .before .before .before .before .before .before .args .nodes .now) (c .before .before .before .before .before .before .before .args .literals .now) (c .before .before .before .before .before .before .before .args .text .now) (c .before .before .before .before .before .before .before .args .capacity) (c .before .before .before .before .before .before .before .args .tokens .now) (c .before .before .before .before .before .before .before .args .scratch .now) false (c .before .before .before .before .before .before .before .args .depth) (view (c .before .before .before .before .before .before .before .args .tokens .now) (c .before .before .before .before .before .before .before .args .scratch .now) (c .before .before .before .before .before .before .before .args .s)) (view (c .before .before .before .before .before .before .before .args .tokens .now) (c .before .before .before .before .before .before .before .args .scratch .now) (c .t2 .given .0 .0)) (c .before .before .before .before .before .before .before .pre .1 .0) (entered c)
+  open-ready : (c : restore-on-err-lts.After-t2 (restore-on-err-calls t) (restore-on-err-at t) restore-on-err.Post) →
+      let S = c .before .before .before .before .before .before .before in
+      Ready (S .args .nodes .now) (S .args .literals .now) (S .args .text .now) (S .args .tokens .now) (S .args .scratch .now) (S .args .capacity) (S .args .depth) (view (S .args .tokens .now) (S .args .scratch .now) (c .t2 .given .0 .0))
+  open-ready c =
+      let S = c .before .before .before .before .before .before .before in
+      ready-open _ _ _ _ _ _ false _ _ (view (S .args .tokens .now) (S .args .scratch .now) (c .t2 .given .0 .0)) (S .pre .1 .0) (entered c)
 
-  deep-open : (c : restore-on-err-lts.After-t2 (restore-on-err-calls t) (restore-on-err-at t) restore-on-err.Post) → 1 ≤ (c .before .before .before .before .before .before .before .args .depth)
-  deep-open c = deep false (c .before .before .before .before .before .before .before .args .depth) (view (c .before .before .before .before .before .before .before .args .tokens .now) (c .before .before .before .before .before .before .before .args .scratch .now) (c .before .before .before .before .before .before .before .args .s)) (view (c .before .before .before .before .before .before .before .args .tokens .now) (c .before .before .before .before .before .before .before .args .scratch .now) (c .t2 .given .0 .0)) (entered c)
+  deep-open : (c : restore-on-err-lts.After-t2 (restore-on-err-calls t) (restore-on-err-at t) restore-on-err.Post) →
+      let S = c .before .before .before .before .before .before .before in
+      1 ≤ (S .args .depth)
+  deep-open c =
+      let S = c .before .before .before .before .before .before .before in
+      deep false _ (view (S .args .tokens .now) (S .args .scratch .now) (S .args .s)) (view (S .args .tokens .now) (S .args .scratch .now) (c .t2 .given .0 .0)) (entered c)
+
+  -- The state with its checkpoint.
+  marked : (c : restore-on-err-lts.After-checkpoint (restore-on-err-calls t) (restore-on-err-at t) restore-on-err.Post) →
+      let S = c .before .before .before .before .before .before .before .before .before .before in
+      Ready (S .args .nodes .now) (S .args .literals .now) (S .args .text .now) (S .args .tokens .now) (c .checkpoint .last .0) (S .args .capacity) (S .args .depth - 1) (view (S .args .tokens .now) (c .checkpoint .last .0) (c .checkpoint .result))
+  marked c =
+      let at-t2 = c .before .before .before in
+      let S = c .before .before .before .before .before .before .before .before .before .before in
+      ready-marked _ _ _ _ (open-ready at-t2) (deep-open at-t2) _ _ (c .checkpoint .ensures .0 (S .args .tokens .now)) (c .checkpoint .kept .0)
 
   enter-requires : restore-on-err-lts.Need-enter-requires (restore-on-err-calls t) (restore-on-err-at t) restore-on-err.Post
   enter-requires c κs = tt
@@ -36,38 +56,51 @@ module _ (t : ℕ) where
   enum-known-t-2 c = search needs
 
   checkpoint-requires : restore-on-err-lts.Need-checkpoint-requires (restore-on-err-calls t) (restore-on-err-at t) restore-on-err.Post
-  checkpoint-requires c κs = 
-      let S = c .before .before .before .before .before .before .before .before .before in
-      mark-of (S .args .nodes .now) (S .args .literals .now) (S .args .text .now) (S .args .capacity) (S .args .tokens .now) (S .args .scratch .now) (S .args .depth) _ (open-ready (c .before .before)) (deep-open (c .before .before))
+  checkpoint-requires c κs = mark-of _ _ _ _ _ _ _ _ (open-ready (c .before .before)) (deep-open (c .before .before))
 
   sub-node : restore-on-err-lts.Need-sub-node (restore-on-err-calls t) (restore-on-err-at t) restore-on-err.Post
-  sub-node c = (deep-open (c .before .before .before .before .before .before .before))
+  sub-node c =
+      let at-t2 = c .before .before .before .before .before .before .before in
+      (deep-open at-t2)
 
   node-requires : restore-on-err-lts.Need-node-requires (restore-on-err-calls t) (restore-on-err-at t) restore-on-err.Post
-  node-requires c κs = 
+  node-requires c κs =
+      let at-checkpoint = c .before .before .before .before in
+      let at-t2 = c .before .before .before .before .before .before .before in
       let S = c .before .before .before .before .before .before .before .before .before .before .before .before .before .before in
-      (down (S .args .depth) (S .args .body) _ t (deep-open (c .before .before .before .before .before .before .before)) ((S .pre .1 .1) .high) (tests (S .args .nodes .now) (S .args .literals .now) (S .args .text .now) (S .args .capacity) (S .pre .1 .0) .few) (S .pre .0), ((ready-marked (S .args .nodes .now) (S .args .literals .now) (S .args .text .now) (S .args .capacity) (open-ready (c .before .before .before .before .before .before .before)) (deep-open (c .before .before .before .before .before .before .before)) (c .before .before .before .before .checkpoint .last .0) (view (S .args .tokens .now) (c .before .before .before .before .checkpoint .last .0) (c .before .before .before .before .checkpoint .result)) (c .before .before .before .before .checkpoint .ensures .0 (S .args .tokens .now)) (c .before .before .before .before .checkpoint .kept .0)), (S .pre .1 .1)))
+      (down _ _ _ t (deep-open at-t2) ((S .pre .1 .1) .high) (tests _ _ _ _ (S .pre .1 .0) .few) (S .pre .0), ((marked at-checkpoint), (S .pre .1 .1)))
 
   restore-on-err-end-requires : restore-on-err-lts.Need-restore-on-err-end-requires (restore-on-err-calls t) (restore-on-err-at t) restore-on-err.Post
-  restore-on-err-end-requires c κs = 
+  restore-on-err-end-requires c κs =
+      let at-node = c .before .before .before .before .before in
+      let at-checkpoint = c .before .before .before .before .before .before .before .before .before .before in
       let S = c .before .before .before .before .before .before .before .before .before .before .before .before .before .before .before .before .before .before .before .before in
-      body-ready (S .args .nodes .now) (S .args .literals .now) (S .args .text .now) (S .args .capacity) (S .args .depth - 1) (S .args .body) (S .args .tokens .now) (c .before .before .before .before .before .before .before .before .before .before .checkpoint .last .0) (view (S .args .tokens .now) (c .before .before .before .before .before .before .before .before .before .before .checkpoint .last .0) (c .before .before .before .before .before .before .before .before .before .before .checkpoint .result)) (ready-marked (S .args .nodes .now) (S .args .literals .now) (S .args .text .now) (S .args .capacity) (open-ready (c .before .before .before .before .before .before .before .before .before .before .before .before .before)) (deep-open (c .before .before .before .before .before .before .before .before .before .before .before .before .before)) (c .before .before .before .before .before .before .before .before .before .before .checkpoint .last .0) (view (S .args .tokens .now) (c .before .before .before .before .before .before .before .before .before .before .checkpoint .last .0) (c .before .before .before .before .before .before .before .before .before .before .checkpoint .result)) (c .before .before .before .before .before .before .before .before .before .before .checkpoint .ensures .0 (S .args .tokens .now)) (c .before .before .before .before .before .before .before .before .before .before .checkpoint .kept .0)) (c .before .before .before .before .before .node .last .1 .1 .1 .0) (c .before .before .before .before .before .node .last .1 .1 .1 .1 .0) (c .before .before .before .before .before .node .kept .1 .1 .1 .1 .0) (c .before .before .before .before .before .node .result) (c .before .before .before .before .before .node .ensures) 0 (omega arith)
+      body-ready _ _ _ _ _ (S .args .body) _ _ _ (marked at-checkpoint) _ _ (at-node .node .kept .1 .1 .1 .1 .0) (at-node .node .result) (at-node .node .ensures) 0 (omega arith)
 
   returns : restore-on-err-lts.Need-returns (restore-on-err-calls t) (restore-on-err-at t) restore-on-err.Post
-  returns c = 
+  returns c =
+      let at-enter = c .before .before .before in
       let S = c .before .before .before .before .before .before .before .before in
-      restore-refused (S .args .nodes .now) (S .args .literals .now) (S .args .text .now) (S .args .capacity) (S .args .depth) (S .args .body) (view (S .args .tokens .now) (S .args .scratch .now) (S .args .s)) _ (told-entry _ _ _ (c .before .before .before .enter .ensures) (c .before .t .given .1) (S .args .tokens .now) (S .args .scratch .now))
+      restore-refused _ _ _ _ _ (S .args .body) _ _ (told-entry _ _ _ (at-enter .enter .ensures) (c .before .t .given .1) (S .args .tokens .now) (S .args .scratch .now))
 
   same-length : restore-on-err-lts.Need-same-length (restore-on-err-calls t) (restore-on-err-at t) restore-on-err.Post
-  same-length c = c .before .before .before .before .before .before .before .before .node .kept .1 .1 .1 .0
+  same-length c =
+      let at-node = c .before .before .before .before .before .before .before .before in
+      at-node .node .kept .1 .1 .1 .0
 
   same-length-2 : restore-on-err-lts.Need-same-length-2 (restore-on-err-calls t) (restore-on-err-at t) restore-on-err.Post
-  same-length-2 c = c .before .before .restore-on-err-end .kept .0 ∙ c .before .before .before .before .before .before .before .before .node .kept .1 .1 .1 .1 .0 ∙ c .before .before .before .before .before .before .before .before .before .before .before .before .before .checkpoint .kept .0
+  same-length-2 c =
+      let at-node = c .before .before .before .before .before .before .before .before in
+      let at-checkpoint = c .before .before .before .before .before .before .before .before .before .before .before .before .before in
+      c .before .before .restore-on-err-end .kept .0 ∙ at-node .node .kept .1 .1 .1 .1 .0 ∙ at-checkpoint .checkpoint .kept .0
 
   returns-2 : restore-on-err-lts.Need-returns-2 (restore-on-err-calls t) (restore-on-err-at t) restore-on-err.Post
-  returns-2 c = 
+  returns-2 c =
+      let at-node = c .before .before .before .before .before .before .before .before in
+      let at-checkpoint = c .before .before .before .before .before .before .before .before .before .before .before .before .before in
+      let at-t2 = c .before .before .before .before .before .before .before .before .before .before .before .before .before .before .before .before in
       let S = c .before .before .before .before .before .before .before .before .before .before .before .before .before .before .before .before .before .before .before .before .before .before .before in
-      restore-step (S .args .nodes .now) (S .args .literals .now) (S .args .text .now) (S .args .capacity) (S .args .depth) (S .args .body) (view (S .args .tokens .now) (S .args .scratch .now) (S .args .s)) (view (S .args .tokens .now) (S .args .scratch .now) (c .before .before .before .before .before .before .before .before .before .before .before .before .before .before .before .before .t2 .given .0 .0)) (entered (c .before .before .before .before .before .before .before .before .before .before .before .before .before .before .before .before)) (view (S .args .tokens .now) (c .before .before .before .before .before .before .before .before .before .before .before .before .before .checkpoint .last .0) (c .before .before .before .before .before .before .before .before .before .before .before .before .before .checkpoint .result)) (c .before .before .before .before .before .before .before .before .before .before .before .before .before .checkpoint .ensures .0 (S .args .tokens .now)) (view-end (c .before .before .before .before .before .before .before .before .node .last .1 .1 .1 .0) (c .before .before .before .before .before .before .before .before .node .last .1 .1 .1 .1 .0) (c .before .before .before .before .before .before .before .before .node .result)) (c .before .before .before .before .before .before .before .before .node .ensures) _ (c .before .before .restore-on-err-end .ensures (c .before .before .before .before .before .before .before .before .node .last .1 .1 .1 .0))
+      restore-step _ _ _ _ _ (S .args .body) _ _ (entered at-t2) _ (at-checkpoint .checkpoint .ensures .0 (S .args .tokens .now)) _ (at-node .node .ensures) _ (c .before .before .restore-on-err-end .ensures (at-node .node .last .1 .1 .1 .0))
 
 pub restore-on-err-closed : {M : Type 1} → (t : ℕ) → restore-on-err-lts.Closed (restore-on-err-calls t) (restore-on-err-at t) restore-on-err.Post M
 restore-on-err-closed t =
