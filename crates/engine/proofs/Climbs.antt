@@ -37,7 +37,7 @@ going k (Ok m) = if eqb k 6 then go m else stay (Ok m)
 going k (Err m) = if eqb k 6 then stay (Err m) else go m
 going k (Stop c) = stay (Stop c)
 
-abbrev onto : (ParserState → Ending ParserState) → Onward → Ending ParserState
+abbrev pub onto : (ParserState → Ending ParserState) → Onward → Ending ParserState
 onto f (go m) = f m
 onto f (stay x) = x
 

@@ -41,3 +41,8 @@ pub mod RuleEnds
 pub mod Runs
 pub mod Demand3
 pub mod ConcludeLaws
+pub mod Steps
+pub mod Turns
+pub mod LineSteps
+pub mod TerminalSteps
+pub mod Walks

@@ -1,11 +1,13 @@
 -- What each function of the evaluation asks and answers: one equation with pest's evaluation, through the abstraction of Areas.
 use mathlib.Core.Path.{_≡_}
-use mathlib.Core.Bool.{Bool, true, false}
+use mathlib.Core.Bool.{Bool, true, false, _||_}
 use mathlib.Core.List.{List}
 use mathlib.Core.Option.{Option, none}
 use Prim.Native.Nat.{ℕ, _+_, _*_, _≤_}
+use lib.Dec.{eqb}
 use lib.IntN.{ℤ}
 use lib.ListN.{length}
+use Rattle.matching.specs.Utf8.{within}
 use Rattle.engine.specs.Ending.{Ending}
 use Rattle.engine.specs.Grammar.{Exp, line-count, misfit, rule-at}
 use Rattle.engine.specs.Nullable.{still-repeat}
@@ -39,3 +41,7 @@ pub record Line (ns : List ℤ) (line : ℕ) : Type 0 where
 -- pest's evaluation, with the stops, of a tree where `depth` more calls may be open.
 unfoldable pub evaluated : List ℤ → (literals text : List ℕ) → (capacity depth : ℕ) → Exp → ParserState → Ending ParserState
 evaluated ns literals text capacity depth e m = Pest.eval (setting-of ns literals text capacity) true depth e m
+
+-- Kinds 8 to 14 and 18 open a call, and so does a call's line.
+abbrev pub opens-call : (kind : ℕ) → Bool
+opens-call k = within 8 14 k || (eqb k 18 || eqb k 20)

@@ -1,0 +1,205 @@
+-- The two loops of a line's evaluation as records: the outer one walks by right sides, each answering for the line that it began with;
+-- the inner one climbs a spine (Climbs has its equations) and keeps the state fit for the next right side.
+use mathlib.Core.Path.{_≡_, refl, sym, ap, subst, _∙_}
+use mathlib.Core.Bool.{Bool, true, false}
+use mathlib.Core.Logic.{inl, inr}
+use mathlib.Core.List.{List}
+use Prim.Native.Nat.{ℕ, _+_, _-_, _*_, _≤_, _<_}
+use native.Mathlib.Omega.{arith}
+use lib.Dec.{eqb}
+use lib.IntN.{ℤ}
+use lib.ListN.{length}
+use Rattle.engine.specs.declared.node.Line as Read
+use Rattle.engine.specs.declared.spine.Spine.{Spine}
+use Rattle.engine.specs.declared.parser_state.Cause.{Cause}
+use Rattle.engine.specs.Ending.{if_then_else_, Ending, Ok, Err, Stop}
+use Rattle.engine.specs.Grammar.{node-at, kind-at, line-count, tree-at}
+use Rattle.engine.specs.Reading.{Setting}
+use Rattle.engine.specs.Pest.{ParserState}
+use Rattle.engine.specs.Lines.{line-of}
+use Rattle.engine.specs.Spine.{left-of, Fork, spine-line, Forks, Slopes, Spined}
+use Rattle.engine.specs.Fit.{Fit}
+use Rattle.engine.specs.Evaluation.{setting-of, Ready, Line, evaluated}
+use Rattle.engine.proofs.Accepted.{Accepted, Fits, facts, tree-kind}
+use Rattle.engine.proofs.Spines.{spine-first}
+use Rattle.engine.proofs.Climbs as Climbs
+use Rattle.engine.proofs.Climbs.{Onward, go, stay, going, onto, right-of, Forked, rise, climb-runs}
+use Rattle.engine.proofs.Steps.{LeftFrom, tests, ready-on, kept}
+
+pub forked : (ns : List ℤ) (literals : List ℕ) → Accepted ns literals → Forked ns literals
+forked ns literals w = record {
+  whole = w .fours;
+  lower = lower;
+  and-tree = λ l lo hi q. tree-kind ns literals w l lo hi 6 q;
+  or-tree = λ l lo hi q. tree-kind ns literals w l lo hi 7 q;
+}
+  where
+    lower : (l : ℕ) → 1 ≤ l → l ≤ line-count ns → Fork (kind-at ns l) → Climbs.Lower l (left-of ns l) × Climbs.Lower l (right-of ns l)
+    lower l lo hi (inl q) = let f : Fits ns literals l = facts ns literals w l lo hi in ((f .a₆ q .low, f .a₆ q .high), (f .b₆ q .low, f .b₆ q .high))
+    lower l lo hi (inr q) = let f : Fits ns literals l = facts ns literals w l lo hi in ((f .a₇ q .low, f .a₇ q .high), (f .b₇ q .low, f .b₇ q .high))
+
+-- The outer loop: from `at` and the state m it comes to what the line it began with comes to.
+pub record Walking (ns : List ℤ) (literals text : List ℕ) (capacity d line : ℕ) (tokens₀ scratch₀ : List ℕ) (m₀ : ParserState) (tokens scratch : List ℕ) (at : ℕ) (m : ParserState) : Type 0 where
+  pub ready : Ready ns literals text tokens scratch capacity d m
+  pub here : Line ns at
+  pub upto : at ≤ line
+  pub tokens-same : length tokens ≡ length tokens₀
+  pub scratch-same : length scratch ≡ length scratch₀
+  pub runs : evaluated ns literals text capacity d (tree-at ns literals at) m ≡ evaluated ns literals text capacity d (tree-at ns literals line) m₀
+
+pub first-walk : (ns : List ℤ) (literals text : List ℕ) (capacity d line : ℕ) (tokens scratch : List ℕ) (m : ParserState) → Ready ns literals text tokens scratch capacity d m → Line ns line
+    → Walking ns literals text capacity d line tokens scratch m tokens scratch line m
+first-walk ns literals text capacity d line tokens scratch m r i = record { ready = r; here = i; upto = omega arith; tokens-same = refl; scratch-same = refl; runs = refl }
+
+-- The state of an ending may go on at the same depth.
+abbrev Able : Setting → (d : ℕ) → ParserState → Type 0
+Able g d n = Fit g n × (length (n .stack .lengths) + d ≤ 1024)
+
+abbrev pub Fine : Setting → (d : ℕ) → Ending ParserState → Type 0
+Fine g d (Ok n) = Able g d n
+Fine g d (Err n) = Able g d n
+Fine g d (Stop c) = Unit {0}
+
+abbrev FineOn : Setting → (d : ℕ) → Onward → Type 0
+FineOn g d (go m) = Able g d m
+FineOn g d (stay x) = Fine g d x
+
+fine-go : (g : Setting) (d : ℕ) (b : Bool) (n : ParserState) → Able g d n → FineOn g d (if b then go n else stay (Ok n))
+fine-go g d true n h = h
+fine-go g d false n h = h
+
+fine-stay : (g : Setting) (d : ℕ) (b : Bool) (n : ParserState) → Able g d n → FineOn g d (if b then stay (Err n) else go n)
+fine-stay g d true n h = h
+fine-stay g d false n h = h
+
+fine-going : (g : Setting) (d k : ℕ) (x : Ending ParserState) → Fine g d x → FineOn g d (going k x)
+unfolding going
+fine-going g d k (Ok n) h = fine-go g d (eqb k 6) n h
+fine-going g d k (Err n) h = fine-stay g d (eqb k 6) n h
+fine-going g d k (Stop c) h = tt
+
+fine-left : (g : Setting) (d : ℕ) (m : ParserState) (x : Ending ParserState) → length (m .stack .lengths) + d ≤ 1024 → LeftFrom g m x → Fine g d x
+fine-left g d m (Ok n) h w = (w .fit, omega (arith, w .level))
+fine-left g d m (Err n) h w = (w .fit, omega (arith, w .level))
+fine-left g d m (Stop c) h w = tt
+
+-- The inner loop: x₀ is the leftmost line's ending, x the ending so far, and i lines are left.
+pub record Climbing (ns : List ℤ) (literals text : List ℕ) (capacity d top count : ℕ) (tokens₀ scratch₀ : List ℕ) (x₀ : Ending ParserState) (tokens scratch : List ℕ) (x : Ending ParserState) (i : ℕ) : Type 0 where
+  pub forks : Forked ns literals
+  pub tokens-same : length tokens ≡ length tokens₀
+  pub scratch-same : length scratch ≡ length scratch₀
+  pub low : 1 ≤ i
+  pub upto : i ≤ count
+  pub fine : Fine (setting-of ns literals text capacity) d x
+  pub runs : rise ns literals text capacity d forks top i x ≡ rise ns literals text capacity d forks top count x₀
+
+module _ (ns : List ℤ) (literals text : List ℕ) (capacity d : ℕ) where
+  abbrev g : Setting
+  g = setting-of ns literals text capacity
+
+  abbrev at-line : ℕ → ParserState → Ending ParserState
+  at-line l m = evaluated ns literals text capacity d (tree-at ns literals l) m
+
+  fine-line : (tokens scratch : List ℕ) (l : ℕ) (m : ParserState) (x : Ending ParserState) → Ready ns literals text tokens scratch capacity d m → x ≡ at-line l m → Fine g d x
+  fine-line tokens scratch l m x r e = fine-left g d m x (r .deep) (kept ns literals text capacity tokens scratch d l m x r e)
+
+  module _ (tokensₒ scratchₒ : List ℕ) (top : ℕ) (m : ParserState) (r : Ready ns literals text tokensₒ scratchₒ capacity d m) (here : Line ns top) where
+    abbrev fk : Forked ns literals
+    fk = forked ns literals (tests ns literals text capacity r)
+
+    pub slopes : Slopes ns top
+    slopes = Climbs.slopes ns literals text capacity d fk top (here .low) (here .high)
+
+    module _ (p : Spine) (w : Spined ns top p) where
+      pub low-upto : p .line ≤ top
+      low-upto = Climbs.low-in ns literals text capacity d fk top (here .low) (here .high) p w .1
+
+      pub low-line : Line ns (p .line)
+      low-line = record { low = Climbs.low-in ns literals text capacity d fk top (here .low) (here .high) p w .0; high = omega (arith, low-upto, here .high) }
+
+      pub top-last : p .count ≡ 0 → Fork (kind-at ns top) → ⊥
+      top-last = Climbs.top-last ns literals text capacity d fk top (here .low) (here .high) p w
+
+      pub forks-below : (i : ℕ) → i ≤ p .count → Forks ns top i
+      forks-below = Climbs.forks-below ns literals text capacity d fk top (here .low) (here .high) p w
+
+      pub line-whole : (i l : ℕ) → i ≤ p .count → l ≡ spine-line ns top i → (1 ≤ l) × (l * 4 ≤ length ns)
+      line-whole = Climbs.line-whole ns literals text capacity d fk top (here .low) (here .high) p w
+
+      pub low-stop : (c : Cause) → Stop c ≡ at-line (p .line) m → Stop c ≡ at-line top m
+      low-stop c f = Climbs.low-stop ns literals text capacity d fk top (here .low) (here .high) p w c m f
+
+      module _ (tokens₀ scratch₀ : List ℕ) (x₀ : Ending ParserState) (f₀ : x₀ ≡ at-line (p .line) m) where
+        pub first-climb : (p .count ≡ 0 → ⊥) → Climbing ns literals text capacity d top (p .count) tokens₀ scratch₀ x₀ tokens₀ scratch₀ x₀ (p .count)
+        first-climb z = record { forks = fk; tokens-same = refl; scratch-same = refl; low = omega arith; upto = omega arith; fine = fine-line tokensₒ scratchₒ (p .line) m x₀ r f₀; runs = refl }
+
+        module _ (tokens scratch : List ℕ) (x : Ending ParserState) (i : ℕ) (c : Climbing ns literals text capacity d top (p .count) tokens₀ scratch₀ x₀ tokens scratch x i)
+            (ut : length tokens₀ ≡ length tokensₒ) (us : length scratch₀ ≡ length scratchₒ) where
+          -- The state from which a right side is evaluated.
+          pub go-ready : (k : ℕ) (t : ParserState) → go t ≡ going k x → Ready ns literals text tokens scratch capacity d t
+          go-ready k t f =
+              let v : Able g d t = subst (FineOn g d) (sym f) (fine-going g d k x (c .fine)) in
+              ready-on ns literals text capacity r (c .tokens-same ∙ ut) (c .scratch-same ∙ us) (v .0) (v .1)
+
+          module _ (o : 1 < i) (l : ℕ) (q : l ≡ spine-line ns top (i - 1)) (n : Read.Line) (h : n ≡ line-of (node-at ns l)) where
+            pub climb-in : (1 ≤ n .b) × (n .b < top)
+            climb-in =
+                let v = Climbs.right-lower ns literals text capacity d fk top (here .low) (here .high) p w (i - 1) l (omega (arith, c .upto)) q n h in
+                (v .0 .0, omega (arith, v .0 .1, v .1))
+
+            pub climb-line : Line ns (n .b)
+            climb-line = let v = climb-in in record { low = v .0; high = omega (arith, v .1, here .high) }
+
+            rises : (y : Ending ParserState) → y ≡ onto (at-line (n .b)) (going (n .kind) x) → rise ns literals text capacity d (c .forks) top (i - 1) y ≡ rise ns literals text capacity d (c .forks) top (p .count) x₀
+            rises y f = climb-runs ns literals text capacity d (c .forks) top (here .low) (here .high) p w x₀ m f₀ i x (c .low) (c .runs) l q n h y f
+
+            pub climb-go : (t : ParserState) → go t ≡ going (n .kind) x → (tokens′ scratch′ : List ℕ) (y : Ending ParserState) → y ≡ at-line (n .b) t → length tokens′ ≡ length tokens → length scratch′ ≡ length scratch
+                → Climbing ns literals text capacity d top (p .count) tokens₀ scratch₀ x₀ tokens′ scratch′ y (i - 1)
+            climb-go t f tokens′ scratch′ y v a b = record {
+              forks = c .forks;
+              tokens-same = a ∙ c .tokens-same;
+              scratch-same = b ∙ c .scratch-same;
+              low = omega arith;
+              upto = omega (arith, c .upto);
+              fine = fine-line tokens scratch (n .b) t y (go-ready (n .kind) t f) v;
+              runs = rises y (v ∙ ap (onto (at-line (n .b))) f);
+            }
+
+            pub climb-stop : (t : ParserState) → go t ≡ going (n .kind) x → (s : Cause) → Stop s ≡ at-line (n .b) t → Stop s ≡ at-line top m
+            climb-stop t f s v =
+                Climbs.climb-stop ns literals text capacity d (c .forks) top (here .low) (here .high) p w x₀ m f₀ i x (c .low) (c .runs) l q n h s (v ∙ ap (onto (at-line (n .b))) f)
+
+            pub climb-stay : stay x ≡ going (n .kind) x → Climbing ns literals text capacity d top (p .count) tokens₀ scratch₀ x₀ tokens scratch x (i - 1)
+            climb-stay f = record {
+              forks = c .forks;
+              tokens-same = c .tokens-same;
+              scratch-same = c .scratch-same;
+              low = omega arith;
+              upto = omega (arith, c .upto);
+              fine = c .fine;
+              runs = rises x (ap (onto (at-line (n .b))) f);
+            }
+
+          -- At the top.
+          module _ (o : i ≤ 1) (n : Read.Line) (h : n ≡ line-of (node-at ns top)) where
+            pub top-in : (1 ≤ n .b) × (n .b < top)
+            top-in = Climbs.right-lower ns literals text capacity d fk top (here .low) (here .high) p w 0 top (omega (arith, c .upto, c .low)) (spine-first ns top) n h .0
+
+            top-is : (y : Ending ParserState) → y ≡ onto (at-line (n .b)) (going (n .kind) x) → y ≡ at-line top m
+            top-is y f = Climbs.top-runs ns literals text capacity d (c .forks) top (here .low) (here .high) p w x₀ m f₀ i x (c .low) (c .runs) o n h y f
+
+            pub top-stay : stay x ≡ going (n .kind) x → x ≡ at-line top m
+            top-stay f = top-is x (ap (onto (at-line (n .b))) f)
+
+            pub top-go : (line : ℕ) (tokensₛ scratchₛ : List ℕ) (mₛ : ParserState) → Walking ns literals text capacity d line tokensₛ scratchₛ mₛ tokensₒ scratchₒ top m → (t : ParserState) → go t ≡ going (n .kind) x
+                → Walking ns literals text capacity d line tokensₛ scratchₛ mₛ tokens scratch (n .b) t
+            top-go line tokensₛ scratchₛ mₛ v t f =
+                let b = top-in in
+                record {
+                  ready = go-ready (n .kind) t f;
+                  here = record { low = b .0; high = omega (arith, b .1, here .high) };
+                  upto = omega (arith, b .1, v .upto);
+                  tokens-same = c .tokens-same ∙ ut ∙ v .tokens-same;
+                  scratch-same = c .scratch-same ∙ us ∙ v .scratch-same;
+                  runs = top-is (at-line (n .b) t) (ap (onto (at-line (n .b))) f) ∙ v .runs;
+                }

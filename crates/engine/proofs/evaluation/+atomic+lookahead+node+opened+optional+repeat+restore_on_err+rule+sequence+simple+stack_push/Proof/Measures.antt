@@ -1,0 +1,205 @@
+-- The measures of the cycle, and what each member is given and may call. Assumes nothing.
+use borrow.Fn.Kinds.{In}
+use borrow.Fn.PlainCycle.{Measures, is, falls, and}
+use Rattle.engine.proofs.evaluation.atomic.Reads as atomic
+use Rattle.engine.proofs.evaluation.atomic.Kinds as atomic-kinds
+use Rattle.engine.proofs.evaluation.+atomic+lookahead+node+opened+optional+repeat+restore_on_err+rule+sequence+simple+stack_push.Lts-atomic as atomic-lts
+use Rattle.engine.proofs.evaluation.lookahead.Reads as lookahead
+use Rattle.engine.proofs.evaluation.lookahead.Kinds as lookahead-kinds
+use Rattle.engine.proofs.evaluation.+atomic+lookahead+node+opened+optional+repeat+restore_on_err+rule+sequence+simple+stack_push.Lts-lookahead as lookahead-lts
+use Rattle.engine.proofs.evaluation.node.Reads as node
+use Rattle.engine.proofs.evaluation.node.Kinds as node-kinds
+use Rattle.engine.proofs.evaluation.+atomic+lookahead+node+opened+optional+repeat+restore_on_err+rule+sequence+simple+stack_push.Lts-node as node-lts
+use Rattle.engine.proofs.evaluation.opened.Reads as opened
+use Rattle.engine.proofs.evaluation.opened.Kinds as opened-kinds
+use Rattle.engine.proofs.evaluation.+atomic+lookahead+node+opened+optional+repeat+restore_on_err+rule+sequence+simple+stack_push.Lts-opened as opened-lts
+use Rattle.engine.proofs.evaluation.optional.Reads as optional
+use Rattle.engine.proofs.evaluation.optional.Kinds as optional-kinds
+use Rattle.engine.proofs.evaluation.+atomic+lookahead+node+opened+optional+repeat+restore_on_err+rule+sequence+simple+stack_push.Lts-optional as optional-lts
+use Rattle.engine.proofs.evaluation.repeat.Reads as repeat
+use Rattle.engine.proofs.evaluation.repeat.Kinds as repeat-kinds
+use Rattle.engine.proofs.evaluation.+atomic+lookahead+node+opened+optional+repeat+restore_on_err+rule+sequence+simple+stack_push.Lts-repeat as repeat-lts
+use Rattle.engine.proofs.evaluation.restore_on_err.Reads as restore-on-err
+use Rattle.engine.proofs.evaluation.restore_on_err.Kinds as restore-on-err-kinds
+use Rattle.engine.proofs.evaluation.+atomic+lookahead+node+opened+optional+repeat+restore_on_err+rule+sequence+simple+stack_push.Lts-restore_on_err as restore-on-err-lts
+use Rattle.engine.proofs.evaluation.rule.Reads as rule
+use Rattle.engine.proofs.evaluation.rule.Kinds as rule-kinds
+use Rattle.engine.proofs.evaluation.+atomic+lookahead+node+opened+optional+repeat+restore_on_err+rule+sequence+simple+stack_push.Lts-rule as rule-lts
+use Rattle.engine.proofs.evaluation.sequence.Reads as sequence
+use Rattle.engine.proofs.evaluation.sequence.Kinds as sequence-kinds
+use Rattle.engine.proofs.evaluation.+atomic+lookahead+node+opened+optional+repeat+restore_on_err+rule+sequence+simple+stack_push.Lts-sequence as sequence-lts
+use Rattle.engine.proofs.evaluation.simple.Reads as simple
+use Rattle.engine.proofs.evaluation.simple.Kinds as simple-kinds
+use Rattle.engine.proofs.evaluation.+atomic+lookahead+node+opened+optional+repeat+restore_on_err+rule+sequence+simple+stack_push.Lts-simple as simple-lts
+use Rattle.engine.proofs.evaluation.stack_push.Reads as stack-push
+use Rattle.engine.proofs.evaluation.stack_push.Kinds as stack-push-kinds
+use Rattle.engine.proofs.evaluation.+atomic+lookahead+node+opened+optional+repeat+restore_on_err+rule+sequence+simple+stack_push.Lts-stack_push as stack-push-lts
+use Rattle.engine.proofs.attempts.note.Reads as note-reads
+use Rattle.engine.proofs.endings.atomic_end.Reads as atomic-end-reads
+use Rattle.engine.proofs.endings.forgiven.Reads as forgiven-reads
+use Rattle.engine.proofs.endings.lookahead_end.Reads as lookahead-end-reads
+use Rattle.engine.proofs.endings.optional_end.Reads as optional-end-reads
+use Rattle.engine.proofs.endings.push_end.Reads as push-end-reads
+use Rattle.engine.proofs.endings.restore_on_err_end.Reads as restore-on-err-end-reads
+use Rattle.engine.proofs.endings.rule_end.Reads as rule-end-reads
+use Rattle.engine.proofs.endings.sequence_end.Reads as sequence-end-reads
+use Rattle.engine.proofs.entry.enter.Reads as enter-reads
+use Rattle.engine.proofs.evaluation.atomicity_of.Reads as atomicity-of-reads
+use Rattle.engine.proofs.evaluation.lookahead_in.Reads as lookahead-in-reads
+use Rattle.engine.proofs.evaluation.opens.Reads as opens-reads
+use Rattle.engine.proofs.evaluation.terminal.Reads as terminal-reads
+use Rattle.engine.proofs.node.line_at.Reads as line-at-reads
+use Rattle.engine.proofs.rule.start_rule.Reads as start-rule-reads
+use Rattle.engine.proofs.spine.descend.Reads as descend-reads
+use Rattle.engine.proofs.spine.ended.Reads as ended-reads
+use Rattle.engine.proofs.spine.goes_right.Reads as goes-right-reads
+use Rattle.engine.proofs.spine.spine_at.Reads as spine-at-reads
+use Rattle.engine.proofs.stack_state.checkpoint.Reads as checkpoint-reads
+use Prim.Native.Nat.{ℕ, _+_, _*_, _<_}
+
+abbrev pub μ-atomic : Measures 4 atomic-kinds.ps ℕ
+μ-atomic κs a = a .1 .1 .1 .1 .1 .1 .0 * 4099
+
+abbrev pub μ-lookahead : Measures 4 lookahead-kinds.ps ℕ
+μ-lookahead κs a = a .1 .1 .1 .1 .1 .1 .0 * 4099
+
+abbrev pub μ-node : Measures 4 node-kinds.ps ℕ
+μ-node κs a = a .1 .1 .1 .1 .1 .1 .0 * 4099 + a .1 .1 .1 .1 .1 .1 .1 .0 + 2
+
+abbrev pub μ-opened : Measures 4 opened-kinds.ps ℕ
+μ-opened κs a = a .1 .1 .1 .1 .1 .1 .0 * 4099 + 1
+
+abbrev pub μ-optional : Measures 4 optional-kinds.ps ℕ
+μ-optional κs a = a .1 .1 .1 .1 .1 .1 .0 * 4099
+
+abbrev pub μ-repeat : Measures 4 repeat-kinds.ps ℕ
+μ-repeat κs a = a .1 .1 .1 .1 .1 .1 .0 * 4099
+
+abbrev pub μ-restore-on-err : Measures 4 restore-on-err-kinds.ps ℕ
+μ-restore-on-err κs a = a .1 .1 .1 .1 .1 .1 .0 * 4099
+
+abbrev pub μ-rule : Measures 4 rule-kinds.ps ℕ
+μ-rule κs a = a .1 .1 .1 .1 .1 .1 .0 * 4099
+
+abbrev pub μ-sequence : Measures 4 sequence-kinds.ps ℕ
+μ-sequence κs a = a .1 .1 .1 .1 .1 .1 .0 * 4099
+
+abbrev pub μ-simple : Measures 4 simple-kinds.ps ℕ
+μ-simple κs a = a .1 .1 .1 .1 .1 .1 .0 * 4099 + 2
+
+abbrev pub μ-stack-push : Measures 4 stack-push-kinds.ps ℕ
+μ-stack-push κs a = a .1 .1 .1 .1 .1 .1 .0 * 4099
+
+abbrev pub atomic-at : ℕ → In 4 atomic-kinds.ps
+atomic-at t = and 4 atomic-kinds.ps (is 4 atomic-kinds.ps μ-atomic t) atomic.Pre
+
+abbrev pub atomic-below : ℕ → In 4 atomic-kinds.ps
+atomic-below t = and 4 atomic-kinds.ps (falls 4 atomic-kinds.ps _<_ μ-atomic t) atomic.Pre
+
+abbrev pub lookahead-at : ℕ → In 4 lookahead-kinds.ps
+lookahead-at t = and 4 lookahead-kinds.ps (is 4 lookahead-kinds.ps μ-lookahead t) lookahead.Pre
+
+abbrev pub lookahead-below : ℕ → In 4 lookahead-kinds.ps
+lookahead-below t =
+    and 4 lookahead-kinds.ps (falls 4 lookahead-kinds.ps _<_ μ-lookahead t) lookahead.Pre
+
+abbrev pub node-at : ℕ → In 4 node-kinds.ps
+node-at t = and 4 node-kinds.ps (is 4 node-kinds.ps μ-node t) node.Pre
+
+abbrev pub node-below : ℕ → In 4 node-kinds.ps
+node-below t = and 4 node-kinds.ps (falls 4 node-kinds.ps _<_ μ-node t) node.Pre
+
+abbrev pub opened-at : ℕ → In 4 opened-kinds.ps
+opened-at t = and 4 opened-kinds.ps (is 4 opened-kinds.ps μ-opened t) opened.Pre
+
+abbrev pub opened-below : ℕ → In 4 opened-kinds.ps
+opened-below t = and 4 opened-kinds.ps (falls 4 opened-kinds.ps _<_ μ-opened t) opened.Pre
+
+abbrev pub optional-at : ℕ → In 4 optional-kinds.ps
+optional-at t = and 4 optional-kinds.ps (is 4 optional-kinds.ps μ-optional t) optional.Pre
+
+abbrev pub optional-below : ℕ → In 4 optional-kinds.ps
+optional-below t =
+    and 4 optional-kinds.ps (falls 4 optional-kinds.ps _<_ μ-optional t) optional.Pre
+
+abbrev pub repeat-at : ℕ → In 4 repeat-kinds.ps
+repeat-at t = and 4 repeat-kinds.ps (is 4 repeat-kinds.ps μ-repeat t) repeat.Pre
+
+abbrev pub repeat-below : ℕ → In 4 repeat-kinds.ps
+repeat-below t = and 4 repeat-kinds.ps (falls 4 repeat-kinds.ps _<_ μ-repeat t) repeat.Pre
+
+abbrev pub restore-on-err-at : ℕ → In 4 restore-on-err-kinds.ps
+restore-on-err-at t =
+    and
+    4
+    restore-on-err-kinds.ps
+    (is 4 restore-on-err-kinds.ps μ-restore-on-err t)
+    restore-on-err.Pre
+
+abbrev pub restore-on-err-below : ℕ → In 4 restore-on-err-kinds.ps
+restore-on-err-below t =
+    and
+    4
+    restore-on-err-kinds.ps
+    (falls 4 restore-on-err-kinds.ps _<_ μ-restore-on-err t)
+    restore-on-err.Pre
+
+abbrev pub rule-at : ℕ → In 4 rule-kinds.ps
+rule-at t = and 4 rule-kinds.ps (is 4 rule-kinds.ps μ-rule t) rule.Pre
+
+abbrev pub rule-below : ℕ → In 4 rule-kinds.ps
+rule-below t = and 4 rule-kinds.ps (falls 4 rule-kinds.ps _<_ μ-rule t) rule.Pre
+
+abbrev pub sequence-at : ℕ → In 4 sequence-kinds.ps
+sequence-at t = and 4 sequence-kinds.ps (is 4 sequence-kinds.ps μ-sequence t) sequence.Pre
+
+abbrev pub sequence-below : ℕ → In 4 sequence-kinds.ps
+sequence-below t =
+    and 4 sequence-kinds.ps (falls 4 sequence-kinds.ps _<_ μ-sequence t) sequence.Pre
+
+abbrev pub simple-at : ℕ → In 4 simple-kinds.ps
+simple-at t = and 4 simple-kinds.ps (is 4 simple-kinds.ps μ-simple t) simple.Pre
+
+abbrev pub simple-below : ℕ → In 4 simple-kinds.ps
+simple-below t = and 4 simple-kinds.ps (falls 4 simple-kinds.ps _<_ μ-simple t) simple.Pre
+
+abbrev pub stack-push-at : ℕ → In 4 stack-push-kinds.ps
+stack-push-at t =
+    and 4 stack-push-kinds.ps (is 4 stack-push-kinds.ps μ-stack-push t) stack-push.Pre
+
+abbrev pub stack-push-below : ℕ → In 4 stack-push-kinds.ps
+stack-push-below t =
+    and 4 stack-push-kinds.ps (falls 4 stack-push-kinds.ps _<_ μ-stack-push t) stack-push.Pre
+
+abbrev pub atomic-calls : ℕ → atomic-lts.Claims
+atomic-calls t = (enter-reads.Asked, enter-reads.Learnt, node-below t, node.Post, atomic-end-reads.Asked, atomic-end-reads.Learnt)
+
+abbrev pub lookahead-calls : ℕ → lookahead-lts.Claims
+lookahead-calls t = (enter-reads.Asked, enter-reads.Learnt, lookahead-in-reads.Asked, lookahead-in-reads.Learnt, checkpoint-reads.Asked, checkpoint-reads.Learnt, node-below t, node.Post, lookahead-end-reads.Asked, lookahead-end-reads.Learnt)
+
+abbrev pub node-calls : ℕ → node-lts.Claims
+node-calls t = (descend-reads.Asked, descend-reads.Learnt, simple-below t, simple.Post, spine-at-reads.Asked, spine-at-reads.Learnt, line-at-reads.Asked, line-at-reads.Learnt, goes-right-reads.Asked, goes-right-reads.Learnt, node-below t, node.Post, ended-reads.Asked, ended-reads.Learnt)
+
+abbrev pub opened-calls : ℕ → opened-lts.Claims
+opened-calls t = (line-at-reads.Asked, line-at-reads.Learnt, rule-below t, rule.Post, sequence-below t, sequence.Post, repeat-below t, repeat.Post, optional-below t, optional.Post, lookahead-below t, lookahead.Post, atomicity-of-reads.Asked, atomicity-of-reads.Learnt, atomic-below t, atomic.Post, stack-push-below t, stack-push.Post, restore-on-err-below t, restore-on-err.Post)
+
+abbrev pub optional-calls : ℕ → optional-lts.Claims
+optional-calls t = (enter-reads.Asked, enter-reads.Learnt, node-below t, node.Post, optional-end-reads.Asked, optional-end-reads.Learnt)
+
+abbrev pub repeat-calls : ℕ → repeat-lts.Claims
+repeat-calls t = (enter-reads.Asked, enter-reads.Learnt, node-below t, node.Post, forgiven-reads.Asked, forgiven-reads.Learnt)
+
+abbrev pub restore-on-err-calls : ℕ → restore-on-err-lts.Claims
+restore-on-err-calls t = (enter-reads.Asked, enter-reads.Learnt, checkpoint-reads.Asked, checkpoint-reads.Learnt, node-below t, node.Post, restore-on-err-end-reads.Asked, restore-on-err-end-reads.Learnt)
+
+abbrev pub rule-calls : ℕ → rule-lts.Claims
+rule-calls t = (enter-reads.Asked, enter-reads.Learnt, note-reads.Asked, note-reads.Learnt, start-rule-reads.Asked, start-rule-reads.Learnt, node-below t, node.Post, rule-end-reads.Asked, rule-end-reads.Learnt)
+
+abbrev pub sequence-calls : ℕ → sequence-lts.Claims
+sequence-calls t = (enter-reads.Asked, enter-reads.Learnt, checkpoint-reads.Asked, checkpoint-reads.Learnt, node-below t, node.Post, sequence-end-reads.Asked, sequence-end-reads.Learnt)
+
+abbrev pub simple-calls : ℕ → simple-lts.Claims
+simple-calls t = (line-at-reads.Asked, line-at-reads.Learnt, opens-reads.Asked, opens-reads.Learnt, opened-below t, opened.Post, terminal-reads.Asked, terminal-reads.Learnt)
+
+abbrev pub stack-push-calls : ℕ → stack-push-lts.Claims
+stack-push-calls t = (enter-reads.Asked, enter-reads.Learnt, node-below t, node.Post, push-end-reads.Asked, push-end-reads.Learnt)
