@@ -528,6 +528,8 @@ module _ (ns : List ℤ) (literals : List ℕ) (g : Accepted ns literals) (p : p
 pub record Started (i : Input) : Type 0 where
   pub literals-short : length (i .literals) ≤ 65535
   pub literals-whole : Utf8 (i .literals)
+  pub fitting : misfit (i .nodes) (i .literals) ≡ none
+  pub moving : still-repeat (i .nodes) ≡ none
   pub grammar : Accepted (i .nodes) (i .literals)
   pub text-short : length (i .text) ≤ 65535
   pub text-whole : Utf8 (i .text)
@@ -572,10 +574,14 @@ started i e =
     let g₇ : good-text (i .text) ≡ true = good 7 (good-text (i .text)) (h .1 .1 .1 .0) in
     let d : (1 ≤ i .depth-limit) × (i .depth-limit ≤ 1024) = within-true 1 1024 (i .depth-limit) (good 8 (within 1 1024 (i .depth-limit)) (h .1 .1 .1 .1 .0)) in
     let a : (leb 515 (length (i .report)) && leb 4864 (i .scratch)) ≡ true = good 9 (leb 515 (length (i .report)) && leb 4864 (i .scratch)) (h .1 .1 .1 .1 .1 .0) in
+    let f : misfit (i .nodes) (i .literals) ≡ none = refuse-none 5 (misfit (i .nodes) (i .literals)) (h .1 .0) in
+    let m : still-repeat (i .nodes) ≡ none = refuse-none 6 (still-repeat (i .nodes)) (h .1 .1 .0) in
     record {
       literals-short = good-short (i .literals) g₄;
       literals-whole = good-whole (i .literals) g₄;
-      grammar = accepted (i .nodes) (i .literals) (refuse-none 5 (misfit (i .nodes) (i .literals)) (h .1 .0)) (refuse-none 6 (still-repeat (i .nodes)) (h .1 .1 .0));
+      fitting = f;
+      moving = m;
+      grammar = accepted (i .nodes) (i .literals) f m;
       text-short = good-short (i .text) g₇;
       text-whole = good-whole (i .text) g₇;
       depth-low = d .0;

@@ -12,16 +12,12 @@ use Rattle.engine.specs.Areas.{numbers, token-at, queue-of}
 use Rattle.engine.specs.Outcome.{insert, ascending, Outcome}
 use Rattle.engine.specs.Tokens.{tokens-of}
 use Rattle.engine.proofs.Regions.{numbers-length}
+use Rattle.engine.proofs.TokenLaws.{queue-length}
 
 -- ── Tokens ──
 tokens-length : (q : List QueueableToken) → length (tokens-of q) ≡ length q
 tokens-length [] = refl
 tokens-length (t ∷ q) = ap suc (tokens-length q)
-
-queue-length : (a : List ℕ) (n : ℕ) → length (queue-of a n) ≡ n
-unfolding queue-of
-queue-length a zero = refl
-queue-length a (suc n) = length-append (queue-of a n) (token-at a n ∷ []) ∙ omega (arith, queue-length a n)
 
 pub tokens-count : (a : List ℕ) (n : ℕ) → n ≡ length (tokens-of (queue-of a n))
 tokens-count a n = omega (arith, tokens-length (queue-of a n), queue-length a n)

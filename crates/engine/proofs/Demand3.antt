@@ -1,5 +1,4 @@
--- Demand 3 of the outcomes that document 01 fixes, for any two started inputs. It is of the definitions alone: the promise of `run`
--- will be that its number, place, count and areas are these.
+-- Demand 3: what document 01 fixes of two started inputs is exact, and `run` promises just that.
 use mathlib.Core.Path.{_≡_, refl, sym, ap, ap₂, _∙_, subst}
 use mathlib.Core.Bool.{Bool}
 use mathlib.Core.List.{List}
@@ -15,17 +14,11 @@ use Rattle.engine.specs.Ending.{Ending, Ok, Err, Stop}
 use Rattle.engine.specs.Forest.{Forest, tokens}
 use Rattle.engine.specs.Reading.{State, Attempts}
 use Rattle.engine.specs.Outcome.{Input, refusal, reading, Answer, answer, of-limit, of-tokens, of-failure, ascending, report-of, numbers, filled, Outcome, Refusal, refused, started, outcome}
-use Rattle.engine.proofs.Exact.{tokens-area-exact, report-exact, SameSet, Few}
+use Rattle.engine.specs.Run.{Ran}
+use Rattle.engine.specs.Demand3.{Parses, parses, Fails, fails, SameSet, token-list, error-report, Each, Demand3}
+use Rattle.engine.proofs.Exact.{tokens-area-exact, report-exact, Few}
 use Rattle.engine.proofs.Accepted as Accepted
 use Rattle.engine.proofs.Runs.{run-bounded, BoundedEnd, bounded-ok, bounded-err, bounded-stop}
-
--- "The reading's forest is the siblings it ends with": it comes to 0 with a forest.
-pub data Parses : Ending State → Forest → Type 0 where
-  parses : (s : State) → s .tracker .cause ≡ none → Parses (Ok s) (s .siblings)
-
--- "its two sets the rules then in its positive and in its negative list": it comes to 10 with attempts.
-pub data Fails : Ending State → Attempts → Type 0 where
-  fails : (s : State) → s .tracker .cause ≡ none → Fails (Err s) (s .attempts)
 
 -- ── An ending and its number ──
 data Numbered (r : Ending State) : ℕ → Type 0 where
@@ -62,7 +55,7 @@ answer-failed r a (fails s e) = rw e
 
 -- ── One started run ──
 module _ (i : Input) (e : refusal i ≡ none) where
-  outcome-is : outcome i ≡ started i (answer (reading i))
+  pub outcome-is : outcome i ≡ started i (answer (reading i))
   unfolding outcome
   outcome-is = ap (λ (r : Option Refusal). elim r as (λ _. Outcome) [ some x ↦ refused i x | none ↦ started i (answer (reading i)) ]) e
 
@@ -115,14 +108,10 @@ module _ (i : Input) (e : refusal i ≡ none) where
   report-room : 515 ≤ length (i .report)
   report-room = Accepted.started i e .report-room
 
+  pub each : Each i (outcome i)
+  each = record { zero-exactly = zero-exactly; ten-exactly = ten-exactly; tokens-laid = tokens-laid; count-laid = count-laid; report-laid = report-laid }
+
 -- ── Any two started runs ──
--- A run's token list: "the first count tokens". Its error report: "the first 515 numbers".
-abbrev pub token-list : Outcome → List ℕ
-token-list o = take (o .count * 5) (o .tokens)
-
-abbrev pub error-report : Outcome → List ℕ
-error-report o = take 515 (o .report)
-
 module _ (i j : Input) (e : refusal i ≡ none) (d : refusal j ≡ none) where
   -- "If both parsed, their token lists are equal exactly when that reading gives both the same forest"
   pub same-tokens : (f h : Forest) → Parses (reading i) f → Parses (reading j) h → (token-list (outcome i) ≡ token-list (outcome j)) ↔ (f ≡ h)
@@ -145,3 +134,10 @@ module _ (i j : Input) (e : refusal i ≡ none) (d : refusal j ≡ none) where
     where
       Same : Type 0
       Same = (a .furthest ≡ b .furthest) × SameSet (a .positive) (b .positive) × SameSet (a .negative) (b .negative)
+
+  both : Demand3 i j (outcome i) (outcome j)
+  both = record { first = each i e; second = each j d; same-tokens = same-tokens; same-reports = same-reports }
+
+  -- Demand 3, of any two values that keep `run`'s promise.
+  pub demand-3 : (o p : Outcome) → Ran i o → Ran j p → Demand3 i j o p
+  demand-3 o p a b = subst (λ (x : Outcome). Demand3 i j x p) (sym (a .is)) (subst (λ (x : Outcome). Demand3 i j (outcome i) x) (sym (b .is)) both)

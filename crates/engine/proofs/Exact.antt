@@ -13,6 +13,7 @@ use borrow.Author.Tests.{eqb-true, eqb-false, ltb-true, ltb-false}
 use Rattle.engine.specs.Ending.{if_then_else_}
 use Rattle.engine.specs.Forest.{Forest, empty, add, size, Token, start-token, end-token, tokens-from, tokens}
 use Rattle.engine.specs.Outcome.{insert, ascending, numbers, report-of, filled}
+use Rattle.engine.specs.Demand3.{SameSet}
 
 -- ── Lists ──
 module _ {A : Type 0} where
@@ -132,10 +133,6 @@ Above x l = (y : ℕ) → List·Memᴰ y l → x < y
 pub data Ascends : List ℕ → Type 0 where
   asc-nil : Ascends []
   asc-cons : {x : ℕ} {l : List ℕ} → Above x l → Ascends l → Ascends (x ∷ l)
-
--- The two lists hold the same numbers.
-abbrev pub SameSet : List ℕ → List ℕ → Type 0
-SameSet l m = (y : ℕ) → List·Memᴰ y l ↔ List·Memᴰ y m
 
 -- Where `insert` puts a number.
 data Placed (x z : ℕ) (l : List ℕ) : Type 0 where

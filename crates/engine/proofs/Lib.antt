@@ -46,3 +46,4 @@ pub mod Turns
 pub mod LineSteps
 pub mod TerminalSteps
 pub mod Walks
+pub mod RunLaws

@@ -31,7 +31,7 @@ use Rattle.engine.proofs.CharacterLaws.{characters-of}
 use Rattle.engine.proofs.Recognition.{PlainRules, rules-of, Recognised, ford-at, ford-parsed, ford-failed}
 use Rattle.engine.proofs.Accepted.{Accepted, RuleLine, Started, started, rule-still, rule-still-is, tree-literals, body-literals, tree-calls, body-calls, tree-steady, body-steady, body-closed, tree-plain, body-plain, body-whole}
 
-tested : (i : Input) → Accepted (i .nodes) (i .literals) → Tested (setting i) (rule-still (i .nodes))
+pub tested : (i : Input) → Accepted (i .nodes) (i .literals) → Tested (setting i) (rule-still (i .nodes))
 tested i a = record {
   literals = body-literals (i .nodes) (i .literals) a;
   closed = body-closed (i .nodes) (i .literals) a;
@@ -45,13 +45,13 @@ module _ (i : Input) (e : refusal i ≡ none) where
   g : Accepted (i .nodes) (i .literals)
   g = s .grammar
 
-  abbrev at-root : Exp
+  abbrev pub at-root : Exp
   at-root = root (i .nodes) (i .literals)
 
-  root-literals : Literals at-root
+  pub root-literals : Literals at-root
   root-literals = tree-literals (i .nodes) (i .literals) g (line-count (i .nodes))
 
-  root-steady : Steady (rule-still (i .nodes)) at-root
+  pub root-steady : Steady (rule-still (i .nodes)) at-root
   root-steady = tree-steady (i .nodes) (i .literals) g (rule-still (i .nodes)) (rule-still-is (i .nodes)) (line-count (i .nodes))
 
   -- ── Demand 2: `state` ──

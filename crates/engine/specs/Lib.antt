@@ -24,3 +24,5 @@ pub mod StackMatch
 pub mod Rule
 pub mod Ends
 pub mod Conclude
+pub mod Run
+pub mod Demand3

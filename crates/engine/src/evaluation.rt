@@ -125,7 +125,7 @@ fn terminal<'a>(
 
 // The line: kinds 6 and 7 are walked here. From the current line down by left sides; then, from the leftmost line up, each right
 // side whose left side ended as its kind asks; the top line's right side is the loop's next line.
-fn node<'a>(
+pub(crate) fn node<'a>(
     nodes: &[i32],
     literals: &'a [u8],
     text: &'a [u8],
