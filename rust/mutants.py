@@ -77,7 +77,7 @@ QUICK = os.environ | {"CARGO_PROFILE_RELEASE_DEBUG": "0", "CARGO_PROFILE_RELEASE
 
 def refused(command):
     try:
-        done = subprocess.run(command, cwd=COPY, capture_output=True, text=True, timeout=300)
+        done = subprocess.run(command, cwd=COPY, capture_output=True, text=True, timeout=120)
     except subprocess.TimeoutExpired:
         return "no end"
     if done.returncode == 0:

@@ -83,6 +83,7 @@ fn make(seed: u64, out: &Path) {
     list.judge.steps = 100_000;
     table_cases().into_iter().for_each(|case| list.take(case));
     attempts_cases().into_iter().for_each(|case| list.take(case));
+    still_cases().into_iter().for_each(|case| list.take(case));
     let mut rng = Rng::new(seed);
     for (number, wanted) in WANTED {
         fill(&mut rng, &mut list, number, wanted);
@@ -195,6 +196,46 @@ fn table_cases() -> Vec<Case> {
     for kind in [-1, 0, 21, 256, 257, i32::MIN, i32::MAX] {
         cases.push(sheet([kind, 0, 0, 0]));
     }
+    cases
+}
+
+/// A repeat of each kind of line, over lines that may stand still (2) and that move (1), and of
+/// rules that call themselves.
+fn still_cases() -> Vec<Case> {
+    const MOVES: [i32; 4] = [4, 1, 0, 0];
+    const STAYS: [i32; 4] = [4, 0, 0, 0];
+    let mut cases = Vec::new();
+    let mut repeat = |lines: &[[i32; 4]]| {
+        let mut nodes = [&[MOVES, STAYS], lines].concat();
+        nodes.push([10, nodes.len() as i32, 0, 0]);
+        cases.push(Case::new(&nodes, "a", "aa"));
+    };
+    for leaf in [[1, 0, 0, 0], [1, 0, 1, 0], [2, 0, 0, 0], [2, 0, 1, 0], [3, 97, 97, 0], MOVES] {
+        repeat(&[leaf]);
+    }
+    for kind in [4, 5, 15, 16, 17] {
+        repeat(&[[kind, 0, 0, 0]]);
+    }
+    repeat(&[[19, 3, 0, 0]]);
+    for (a, b) in [(1, 1), (1, 2), (2, 1), (2, 2)] {
+        repeat(&[[6, a, b, 0]]);
+        repeat(&[[7, a, b, 0]]);
+    }
+    for body in [1, 2] {
+        for kind in [9, 10, 11, 12, 13, 14, 18] {
+            repeat(&[[kind, body, 0, 0]]);
+        }
+        repeat(&[[12, body, 1, 0]]);
+        repeat(&[[8, 7, body, 0]]);
+        repeat(&[[8, 7, body, 0], [20, 3, 0, 0]]);
+        // The rule is the call of itself beside `body`.
+        repeat(&[[20, 5, 0, 0], [7, 3, body, 0], [8, 7, 4, 0]]);
+        repeat(&[[20, 5, 0, 0], [6, 3, body, 0], [8, 7, 4, 0]]);
+        repeat(&[[20, 5, 0, 0], [7, body, 3, 0], [8, 7, 4, 0]]);
+        repeat(&[[20, 5, 0, 0], [6, body, 3, 0], [8, 7, 4, 0]]);
+    }
+    // A rule that is only the call of itself is not in the least set.
+    repeat(&[[20, 4, 0, 0], [8, 7, 3, 0]]);
     cases
 }
 
