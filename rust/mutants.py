@@ -87,7 +87,7 @@ def refused(command):
 
 
 def main():
-    shutil.copytree(HERE, COPY, dirs_exist_ok=True, ignore=shutil.ignore_patterns("answers-out", ".git"))
+    shutil.copytree(HERE, COPY, dirs_exist_ok=True, ignore=shutil.ignore_patterns("answers-out", "target"))
     survivors = 0
     wanted = [mutant for mutant in MUTANTS if not WORDS or any(word in mutant[0] for word in WORDS)]
     for name, file, old, new in wanted:

@@ -84,6 +84,7 @@ fn make(seed: u64, out: &Path) {
     table_cases().into_iter().for_each(|case| list.take(case));
     attempts_cases().into_iter().for_each(|case| list.take(case));
     still_cases().into_iter().for_each(|case| list.take(case));
+    limit_cases().into_iter().for_each(|case| list.take(case));
     let mut rng = Rng::new(seed);
     for (number, wanted) in WANTED {
         fill(&mut rng, &mut list, number, wanted);
@@ -236,6 +237,25 @@ fn still_cases() -> Vec<Case> {
     }
     // A rule that is only the call of itself is not in the least set.
     repeat(&[[20, 4, 0, 0], [8, 7, 3, 0]]);
+    cases
+}
+
+/// A limit inside each kind of entering line, and then a pop of the empty stack: whether it comes
+/// to that shows how the line answered.
+fn limit_cases() -> Vec<Case> {
+    let entering = [8, 9, 10, 11, 12, 13, 14, 18].map(|kind| match kind {
+        8 => [8, 7, 2, 0],
+        _ => [kind, 2, 0, 0],
+    });
+    let mut cases = Vec::new();
+    for node in entering.into_iter().chain([[12, 2, 1, 0]]) {
+        for chain in [6, 7] {
+            let nodes = [[1, 0, 1, 0], [9, 1, 0, 0], node, [15, 0, 0, 0], [chain, 3, 4, 0]];
+            let case = Case::new(&nodes, "a", "a");
+            cases.push(Case { depth_limit: 1, ..case.clone() });
+            cases.push(Case { call_limit: 1, ..case });
+        }
+    }
     cases
 }
 
