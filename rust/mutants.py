@@ -77,7 +77,7 @@ QUICK = os.environ | {"CARGO_PROFILE_RELEASE_DEBUG": "0", "CARGO_PROFILE_RELEASE
 
 def refused(command):
     try:
-        done = subprocess.run(command, cwd=COPY, capture_output=True, text=True, timeout=300)
+        done = subprocess.run(command, cwd=COPY, capture_output=True, text=True, timeout=120)
     except subprocess.TimeoutExpired:
         return "no end"
     if done.returncode == 0:
@@ -87,7 +87,7 @@ def refused(command):
 
 
 def main():
-    shutil.copytree(HERE, COPY, dirs_exist_ok=True, ignore=shutil.ignore_patterns("answers-out", ".git"))
+    shutil.copytree(HERE, COPY, dirs_exist_ok=True, ignore=shutil.ignore_patterns("answers-out", "target"))
     survivors = 0
     wanted = [mutant for mutant in MUTANTS if not WORDS or any(word in mutant[0] for word in WORDS)]
     for name, file, old, new in wanted:

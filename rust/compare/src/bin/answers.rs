@@ -83,6 +83,8 @@ fn make(seed: u64, out: &Path) {
     list.judge.steps = 100_000;
     table_cases().into_iter().for_each(|case| list.take(case));
     attempts_cases().into_iter().for_each(|case| list.take(case));
+    still_cases().into_iter().for_each(|case| list.take(case));
+    limit_cases().into_iter().for_each(|case| list.take(case));
     let mut rng = Rng::new(seed);
     for (number, wanted) in WANTED {
         fill(&mut rng, &mut list, number, wanted);
@@ -194,6 +196,65 @@ fn table_cases() -> Vec<Case> {
     }
     for kind in [-1, 0, 21, 256, 257, i32::MIN, i32::MAX] {
         cases.push(sheet([kind, 0, 0, 0]));
+    }
+    cases
+}
+
+/// A repeat of each kind of line, over lines that may stand still (2) and that move (1), and of
+/// rules that call themselves.
+fn still_cases() -> Vec<Case> {
+    const MOVES: [i32; 4] = [4, 1, 0, 0];
+    const STAYS: [i32; 4] = [4, 0, 0, 0];
+    let mut cases = Vec::new();
+    let mut repeat = |lines: &[[i32; 4]]| {
+        let mut nodes = [&[MOVES, STAYS], lines].concat();
+        nodes.push([10, nodes.len() as i32, 0, 0]);
+        cases.push(Case::new(&nodes, "a", "aa"));
+    };
+    for leaf in [[1, 0, 0, 0], [1, 0, 1, 0], [2, 0, 0, 0], [2, 0, 1, 0], [3, 97, 97, 0], MOVES] {
+        repeat(&[leaf]);
+    }
+    for kind in [4, 5, 15, 16, 17] {
+        repeat(&[[kind, 0, 0, 0]]);
+    }
+    repeat(&[[19, 3, 0, 0]]);
+    for (a, b) in [(1, 1), (1, 2), (2, 1), (2, 2)] {
+        repeat(&[[6, a, b, 0]]);
+        repeat(&[[7, a, b, 0]]);
+    }
+    for body in [1, 2] {
+        for kind in [9, 10, 11, 12, 13, 14, 18] {
+            repeat(&[[kind, body, 0, 0]]);
+        }
+        repeat(&[[12, body, 1, 0]]);
+        repeat(&[[8, 7, body, 0]]);
+        repeat(&[[8, 7, body, 0], [20, 3, 0, 0]]);
+        // The rule is the call of itself beside `body`.
+        repeat(&[[20, 5, 0, 0], [7, 3, body, 0], [8, 7, 4, 0]]);
+        repeat(&[[20, 5, 0, 0], [6, 3, body, 0], [8, 7, 4, 0]]);
+        repeat(&[[20, 5, 0, 0], [7, body, 3, 0], [8, 7, 4, 0]]);
+        repeat(&[[20, 5, 0, 0], [6, body, 3, 0], [8, 7, 4, 0]]);
+    }
+    // A rule that is only the call of itself is not in the least set.
+    repeat(&[[20, 4, 0, 0], [8, 7, 3, 0]]);
+    cases
+}
+
+/// A limit inside each kind of entering line, and then a pop of the empty stack: whether it comes
+/// to that shows how the line answered.
+fn limit_cases() -> Vec<Case> {
+    let entering = [8, 9, 10, 11, 12, 13, 14, 18].map(|kind| match kind {
+        8 => [8, 7, 2, 0],
+        _ => [kind, 2, 0, 0],
+    });
+    let mut cases = Vec::new();
+    for node in entering.into_iter().chain([[12, 2, 1, 0]]) {
+        for chain in [6, 7] {
+            let nodes = [[1, 0, 1, 0], [9, 1, 0, 0], node, [15, 0, 0, 0], [chain, 3, 4, 0]];
+            let case = Case::new(&nodes, "a", "a");
+            cases.push(Case { depth_limit: 1, ..case.clone() });
+            cases.push(Case { call_limit: 1, ..case });
+        }
     }
     cases
 }
