@@ -8,7 +8,7 @@ use native.Mathlib.Numerals.{add-one}
 use lib.ListN.{length, getD, take, set, replicate, length-set, length-append, length-take, length-replicate, getD-replicate, List·getD-append}
 use lib.Seq.{getD-set-same, getD-set-other, take-append-le, take-all, take-suc, take-length, getD-take, getD-append-add, ext-getD}
 use Rattle.engine.specs.Areas.{numbers, Outside}
-use Rattle.engine.specs.Outcome.{filled}
+use Rattle.reading.specs.Outcome.{filled}
 use Rattle.engine.proofs.Regions.{outside-wider, outside-set, same-below, numbers-length, numbers-same}
 
 -- a write within [lo, hi)

@@ -12,10 +12,10 @@ use lib.Dec.{eqb, ltb}
 use borrow.Author.Tests.{eq-eqb, ne-eqb, lt-ltb, le-ltb}
 use Rattle.engine.specs.declared.attempts.Attempts.{Attempts}
 use Rattle.engine.specs.declared.attempts.Noted.{Noted}
-use Rattle.engine.specs.Ending.{if_then_else_, is-negative, is-atomic}
-use Rattle.engine.specs.Reading.{most-attempts}
-use Rattle.engine.specs.Pest as Pest
-use Rattle.engine.specs.Pest.{ParserState}
+use Rattle.reading.specs.Ending.{if_then_else_, is-negative, is-atomic}
+use Rattle.reading.specs.Reading.{most-attempts}
+use Rattle.reading.specs.Pest as Pest
+use Rattle.reading.specs.Pest.{ParserState}
 use Rattle.engine.specs.Areas.{numbers, Outside, positives-at, negatives-at}
 use Rattle.engine.specs.Attempts.{Tried, tried, tried-of, with-tried, noted, truncated, advanced, appended, tracked, Track, kept, full, within, Few}
 use Rattle.engine.proofs.Regions.{outside-refl, outside-set, numbers-length, numbers-same, same-below, same-above}

@@ -12,14 +12,14 @@ use lib.ListN.{length}
 use borrow.Author.Tests.{eq-eqb, ne-eqb}
 use Rattle.engine.specs.declared.node.Line.{Line}
 use Rattle.engine.specs.declared.spine.Spine.{Spine}
-use Rattle.engine.specs.declared.parser_state.Cause.{Cause}
+use Rattle.reading.specs.declared.parser_state.Cause.{Cause}
 use Rattle.engine.specs.declared.parser_state.ParserState as Code
 use Rattle.engine.specs.declared.parser_state.Ending as Coded
 use Rattle.engine.specs.declared.parser_state.Ending.the-variants as Coded-of
-use Rattle.engine.specs.Ending.{if_then_else_, Ending, Ok, Err, Stop, on-ok, on-err}
-use Rattle.engine.specs.Grammar.{Exp, and-then, or-else, natural, node-at, kind-at, line-count, tree-at}
-use Rattle.engine.specs.Pest as Pest
-use Rattle.engine.specs.Pest.{ParserState}
+use Rattle.reading.specs.Ending.{if_then_else_, Ending, Ok, Err, Stop, on-ok, on-err}
+use Rattle.reading.specs.Grammar.{Exp, and-then, or-else, natural, node-at, kind-at, line-count, tree-at}
+use Rattle.reading.specs.Pest as Pest
+use Rattle.reading.specs.Pest.{ParserState}
 use Rattle.engine.specs.Areas.{view, view-end}
 use Rattle.engine.specs.Lines.{line-of}
 use Rattle.engine.specs.Spine.{left-of, Fork, spine-line, Forks, Slopes, Spined, goes-by, goes, ending-of}

@@ -6,11 +6,11 @@ use Prim.Native.Nat.{ℕ, zero, suc, _+_, _≤_}
 use native.Mathlib.Omega.{arith}
 use lib.ListN.{length, length-append}
 use lib.Dec.{eqb, ltb}
-use Rattle.engine.specs.Ending.{if_then_else_}
-use Rattle.engine.specs.Pest.{QueueableToken}
+use Rattle.reading.specs.Ending.{if_then_else_}
+use Rattle.reading.specs.Pest.{QueueableToken}
 use Rattle.engine.specs.Areas.{numbers, token-at, queue-of}
-use Rattle.engine.specs.Outcome.{insert, ascending, Outcome}
-use Rattle.engine.specs.Tokens.{tokens-of}
+use Rattle.reading.specs.Outcome.{insert, ascending, Outcome}
+use Rattle.reading.specs.Answer.{tokens-of}
 use Rattle.engine.proofs.Regions.{numbers-length}
 use Rattle.engine.proofs.TokenLaws.{queue-length}
 

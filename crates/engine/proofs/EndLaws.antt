@@ -11,12 +11,12 @@ use Rattle.matching.specs.Answers.{matched}
 use Rattle.matching.specs.declared.position.BytePosition.{BytePosition}
 use Rattle.matching.specs.declared.position.TokenIndex.{TokenIndex}
 use Rattle.matching.specs.declared.position.Matched.{Matched}
-use Rattle.engine.specs.declared.parser_state.Lookahead.{Lookahead}
+use Rattle.reading.specs.declared.parser_state.Lookahead.{Lookahead}
 use Rattle.engine.specs.declared.parser_state.ParserState as Code
-use Rattle.engine.specs.Ending.{if_then_else_, Ok, Err}
-use Rattle.engine.specs.Pest.{ParserState, QueueableToken, set-position, set-queue, limit-reached, moved}
+use Rattle.reading.specs.Ending.{if_then_else_, Ok, Err}
+use Rattle.reading.specs.Pest.{ParserState, QueueableToken, set-position, set-queue, limit-reached, moved}
 use Rattle.engine.specs.Areas.{view, queue-of}
-use Rattle.engine.specs.Sound.{StateReady}
+use Rattle.engine.specs.StackReady.{StateReady}
 use Rattle.engine.specs.StackMatch.{match-of}
 use Rattle.engine.specs.Ends.{looking}
 use Rattle.engine.proofs.TokenLaws.{queue-take}

@@ -15,7 +15,7 @@ use borrow.Author.Tests.{ltb-true, le-leb}
 use Rattle.engine.specs.declared.node.Line.{Line}
 use Rattle.engine.specs.declared.node.Ends.{Ends}
 use Rattle.engine.specs.declared.node.Field.{Field}
-use Rattle.engine.specs.Grammar.{natural, row, count, node-at}
+use Rattle.reading.specs.Grammar.{natural, row, count, node-at}
 use Rattle.engine.specs.Lines.{line-of, ends-of, field-of}
 
 pub back : (x : ℤ) → SFits w32 x → toZ w32 (ofZ w32 x) ≡ x

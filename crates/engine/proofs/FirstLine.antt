@@ -6,7 +6,7 @@ use Prim.Native.Nat.{ℕ, zero, suc, _+_, _-_, _≤_, _<_}
 use native.Mathlib.Omega.{arith}
 use native.Mathlib.Numerals.{add-one}
 use Rattle.engine.specs.declared.grammar.Fault.the-variants.{No, At}
-use Rattle.engine.specs.Grammar.{first-line}
+use Rattle.reading.specs.Grammar.{first-line}
 use Rattle.engine.specs.Lines.{fault-of}
 
 module _ (test : ℕ → Bool) where

@@ -16,7 +16,7 @@ use Rattle.engine.specs.declared.node.Field.{Field}
 use Rattle.engine.specs.declared.grammar.Tests.{Tests}
 use Rattle.engine.specs.declared.grammar.Fault.{Fault}
 use Rattle.engine.specs.declared.grammar.Fault.the-variants.{At}
-use Rattle.engine.specs.Grammar.{node-at, natural, kind-at, line-count, row, between, scalar, count, edge, literal-part, called, fields-fit, line-fits, first-line, misfit}
+use Rattle.reading.specs.Grammar.{node-at, natural, kind-at, line-count, row, between, scalar, count, edge, literal-part, called, fields-fit, line-fits, first-line, misfit}
 use Rattle.engine.specs.Lines.{line-of, field-of, in-range, part-in, tests-of, fault-of, line-misfits}
 
 -- ── A field that names a line of kind 8 ──

@@ -14,8 +14,8 @@ use mir.Facts.{toZ-ofZ, sfits-widen, fits-natAbs}
 use borrow.Author.Tests.{ltb-true, lt-ltb, le-ltb, eq-eqb, ne-eqb}
 use Rattle.engine.specs.declared.stack_match.Index.{Index}
 use Rattle.engine.specs.declared.stack_match.Index.the-variants.{At, Outside}
-use Rattle.engine.specs.Ending.{if_then_else_}
-use Rattle.engine.specs.Pest.{normalize-index, normalize-end}
+use Rattle.reading.specs.Ending.{if_then_else_}
+use Rattle.reading.specs.Pest.{normalize-index, normalize-end}
 use Rattle.engine.specs.StackMatch.{index-of}
 
 -- What the test x < 0 says.

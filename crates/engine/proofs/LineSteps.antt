@@ -15,17 +15,17 @@ use Rattle.matching.specs.Utf8.{within}
 use Rattle.matching.proofs.Lead as Lead
 use Rattle.matching.proofs.Lead.{within-true, within-is}
 use Rattle.engine.specs.declared.node.Line as Read
-use Rattle.engine.specs.declared.parser_state.Atomicity.{Atomicity}
-use Rattle.engine.specs.declared.parser_state.Atomicity.the-variants.{NonAtomic}
-use Rattle.engine.specs.Ending.{Ending}
-use Rattle.engine.specs.Grammar as Grammar
-use Rattle.engine.specs.Grammar.{Exp, node-at, natural, kind-at, tree-at, atomicity-of}
-use Rattle.engine.specs.Nullable.{nullable}
-use Rattle.engine.specs.Pest as Pest
-use Rattle.engine.specs.Pest.{ParserState}
+use Rattle.reading.specs.declared.parser_state.Atomicity.{Atomicity}
+use Rattle.reading.specs.declared.parser_state.Atomicity.the-variants.{NonAtomic}
+use Rattle.reading.specs.Ending.{Ending}
+use Rattle.reading.specs.Grammar as Grammar
+use Rattle.reading.specs.Grammar.{Exp, node-at, natural, kind-at, tree-at, atomicity-of}
+use Rattle.reading.specs.Nullable.{nullable}
+use Rattle.reading.specs.Pest as Pest
+use Rattle.reading.specs.Pest.{ParserState}
 use Rattle.engine.specs.Lines.{line-of}
 use Rattle.engine.specs.Evaluation.{setting-of, Line, evaluated, opens-call}
-use Rattle.engine.proofs.Accepted.{Accepted, Lower, Fits, RuleLine, facts, tree-kind}
+use Rattle.reading.proofs.Accepted.{Accepted, Lower, Fits, RuleLine, facts, tree-kind}
 
 -- ── Kinds ──
 or-split : (x y : Bool) → (x || y) ≡ true → (x ≡ true) ⊎ (y ≡ true)

@@ -11,8 +11,8 @@ use lib.Dec.{eqb}
 use borrow.Author.Tests.{le-leb, lt-leb}
 use Rattle.matching.specs.Position.{starts-by, match-by, match-string}
 use Rattle.matching.proofs.Starts.{starts-short}
-use Rattle.engine.specs.Pest as Pest
-use Rattle.engine.specs.Ending.{if_then_else_}
+use Rattle.reading.specs.Pest as Pest
+use Rattle.reading.specs.Ending.{if_then_else_}
 
 same-starts : (same : ℕ → ℕ → Bool) (l x : List ℕ) → length l ≤ length x → Pest.same-bytes same l (take (length l) x) ≡ starts-by same l x
 same-starts same [] x h = refl

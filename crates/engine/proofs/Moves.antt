@@ -6,7 +6,7 @@ use native.Mathlib.Omega.{arith}
 use native.Mathlib.Numerals.{add-one}
 use lib.ListN.{length, getD, take}
 use lib.Seq.{take-suc}
-use Rattle.engine.specs.Ending.{Span}
+use Rattle.reading.specs.Ending.{Span}
 use Rattle.engine.specs.Areas.{pairs, span, Outside}
 use Rattle.engine.specs.declared.areas.Pair.{Pair}
 use Rattle.engine.specs.Pairs.{pair, put, copied, drained, refilled}

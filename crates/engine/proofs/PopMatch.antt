@@ -13,20 +13,22 @@ use borrow.Author.Tests.{ltb-false, le-ltb, eq-eqb, ne-eqb, le-leb, lt-leb}
 use Rattle.matching.specs.declared.span.Span as Code
 use Rattle.matching.specs.Position.{starts-by, match-by, match-string, bytes-of}
 use Rattle.matching.proofs.Starts.{starts-short, From, from-start, from-more, from-fails, from-end}
-use Rattle.engine.specs.Pest as Pest
+use Rattle.reading.specs.Pest as Pest
 use Rattle.engine.specs.declared.stack.Stack.{Stack}
 use Rattle.engine.specs.declared.stack.Popped.{Popped}
 use Rattle.engine.specs.declared.stack.Popped.the-variants.{Got, Empty, Full}
-use Rattle.engine.specs.declared.parser_state.Cause.the-variants.{StackFull}
-use Rattle.engine.specs.Ending.{if_then_else_, Ending, Ok, Err, Stop, stop-if, Span, Checkpoint}
-use Rattle.engine.specs.Reading.{debt}
-use Rattle.engine.specs.Pest.{ParserState, set-position, set-stack, pop, as-str, stack-match-pop}
+use Rattle.reading.specs.declared.parser_state.Cause.the-variants.{StackFull}
+use Rattle.reading.specs.Ending.{if_then_else_, Ending, Ok, Err, Stop, stop-if, Span, Checkpoint}
+use Rattle.reading.specs.Reading.{debt}
+use Rattle.reading.specs.Pest.{ParserState, set-position, set-stack, pop, as-str, stack-match-pop}
 use Rattle.engine.specs.Areas.{pairs, span, checkpoint, stack-of}
 use Rattle.engine.specs.Bounded.{Take, got, taken, taken-from, take-of}
-use Rattle.engine.specs.Sound.{Sound, StackReady, OutsideStack}
-use Rattle.engine.proofs.StackLaws.{pest}
+use Rattle.reading.specs.Sound.{Sound}
+use Rattle.engine.specs.StackReady.{StackReady, OutsideStack}
+use Rattle.reading.proofs.StackLaws.{pest}
 use Rattle.engine.proofs.Regions.{pairs-length, stack-refl, stack-trans}
-use Rattle.engine.proofs.SoundLaws.{sound-pop, lengths-pop, ready-after}
+use Rattle.reading.proofs.SoundLaws.{sound-pop, lengths-pop}
+use Rattle.engine.proofs.ReadyLaws.{ready-after}
 use Rattle.engine.proofs.Matching.{match-string-same}
 
 -- ── What a pop that was allowed says ──

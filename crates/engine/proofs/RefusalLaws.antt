@@ -15,11 +15,12 @@ use Rattle.engine.specs.declared.grammar.Fault.{Fault}
 use Rattle.engine.specs.declared.grammar.Fault.the-variants as Fault
 use Rattle.engine.specs.declared.grammar.Refused.{Refused}
 use Rattle.engine.specs.declared.grammar.Refused.the-variants.{No, By}
-use Rattle.engine.specs.Ending.{if_then_else_}
-use Rattle.engine.specs.Grammar.{line-count, first-line, misfit}
-use Rattle.engine.specs.Nullable.{still-repeat}
-use Rattle.engine.specs.Outcome.{Input, Refusal, refuse, unless, good-text, first-of, refusal}
+use Rattle.reading.specs.Ending.{if_then_else_}
+use Rattle.reading.specs.Grammar.{line-count, first-line, misfit}
+use Rattle.reading.specs.Nullable.{still-repeat}
+use Rattle.reading.specs.Outcome.{Input, Refusal, refuse, unless, good-text, first-of, refusal}
 use Rattle.engine.specs.Lines.{fault-of, line-misfits}
+use Rattle.reading.proofs.Accepted.{misfit-fours}
 use Rattle.engine.specs.Refusals.{refused-of, Handed, later-tests}
 
 -- ── A good text ──
@@ -91,16 +92,13 @@ module _ (ns : List ℤ) (literals text : List ℕ) (depth report scratch : ℕ)
         refused-later s r q = by-all (q ∙ sym (rw (good, passed (misfit ns literals) m, passed (still-repeat ns) s)))
 
 -- ── What test 5 gives ──
-pub misfit-fours : (ns : List ℤ) (literals : List ℕ) → misfit ns literals ≡ none → (eqb (line-count ns * 4) (length ns) && within 1 4096 (line-count ns)) ≡ true
-misfit-fours ns literals e = go (eqb (line-count ns * 4) (length ns) && within 1 4096 (line-count ns)) e
-  where
-    go : (b : Bool) → (if b then first-line (line-misfits ns literals) 1 (line-count ns) else some 0) ≡ none → b ≡ true
-    go true q = refl
-    go false q = let z : _≡_ {A = ℕ} 0 1 = cc in absurd (omega arith)
-
 pub few-nodes : (ns : List ℤ) (literals : List ℕ) → Fault.No ≡ fault-of (misfit ns literals) → length ns ≤ 16384
 few-nodes ns literals m =
     let t : (eqb (line-count ns * 4) (length ns) && within 1 4096 (line-count ns)) ≡ true = misfit-fours ns literals (passed (misfit ns literals) m) in
     let q : line-count ns * 4 ≡ length ns = eqb-true (line-count ns * 4) (length ns) (and-left (eqb (line-count ns * 4) (length ns)) _ t) in
     let w : (1 ≤ line-count ns) × (line-count ns ≤ 4096) = within-true 1 4096 (line-count ns) (and-right (eqb (line-count ns * 4) (length ns)) _ t) in
     omega (arith, w .1)
+
+pub not-refused : (o : Option Refusal) → No ≡ refused-of o → o ≡ none
+not-refused none e = refl
+not-refused (some r) e = let z : _≡_ {A = ℕ} 0 1 = cc in absurd (omega arith)

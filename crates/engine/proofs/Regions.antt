@@ -8,7 +8,7 @@ use lib.ListN.{length, getD, drop, set, length-set, length-append}
 use lib.Seq.{getD-set-same, getD-set-other}
 use Rattle.engine.specs.Areas.{pairs, numbers, Outside}
 use Rattle.engine.specs.Pairs.{put}
-use Rattle.engine.specs.Sound.{OutsideStack}
+use Rattle.engine.specs.StackReady.{OutsideStack}
 
 -- ── Frames ──
 -- a and b agree on [lo, hi).

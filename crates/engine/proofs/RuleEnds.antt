@@ -6,15 +6,15 @@ use Prim.Native.Nat.{ℕ, _≤_}
 use native.Mathlib.Omega.{arith}
 use lib.ListN.{length}
 use lib.Dec.{ltb}
-use Rattle.engine.specs.declared.parser_state.Cause.the-variants.{AttemptsFull}
+use Rattle.reading.specs.declared.parser_state.Cause.the-variants.{AttemptsFull}
 use Rattle.engine.specs.declared.attempts.Noted.{Noted}
 use Rattle.engine.specs.declared.parser_state.ParserState as Code
 use Rattle.engine.specs.declared.parser_state.Ending as Code·ending
 use Rattle.engine.specs.declared.parser_state.Ending.the-variants as Code·of
-use Rattle.engine.specs.Ending.{Ending, Ok, Err, Stop, on-ok, stop-if, is-negative, is-atomic}
-use Rattle.engine.specs.Grammar.{end-of-input}
-use Rattle.engine.specs.Reading.{Setting, most-attempts}
-use Rattle.engine.specs.Pest.{ParserState, tracking, track, close-rule, rule-end}
+use Rattle.reading.specs.Ending.{Ending, Ok, Err, Stop, on-ok, stop-if, is-negative, is-atomic}
+use Rattle.reading.specs.Grammar.{end-of-input}
+use Rattle.reading.specs.Reading.{Setting, most-attempts}
+use Rattle.reading.specs.Pest.{ParserState, tracking, track, close-rule, rule-end}
 use Rattle.engine.specs.Areas.{view, view-end}
 use Rattle.engine.specs.Rule.{dropped, Recording}
 use Rattle.engine.proofs.AttemptLaws.{track-is}

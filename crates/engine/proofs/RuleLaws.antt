@@ -10,17 +10,17 @@ use lib.ListN.{length, getD, take, set, length-set}
 use lib.Seq.{set-out, take-all}
 use lib.Dec.{eqb, ltb, leb}
 use borrow.Author.Tests.{le-leb, lt-leb, leb-true, leb-false}
-use Rattle.engine.specs.declared.parser_state.Lookahead.{Lookahead}
-use Rattle.engine.specs.declared.parser_state.Atomicity.{Atomicity}
-use Rattle.engine.specs.declared.parser_state.Cause.the-variants.{TokensFull, AttemptsFull}
+use Rattle.reading.specs.declared.parser_state.Lookahead.{Lookahead}
+use Rattle.reading.specs.declared.parser_state.Atomicity.{Atomicity}
+use Rattle.reading.specs.declared.parser_state.Cause.the-variants.{TokensFull, AttemptsFull}
 use Rattle.engine.specs.declared.attempts.Noted.{Noted}
 use Rattle.engine.specs.declared.attempts.Attempts.{Attempts}
 use Rattle.engine.specs.declared.stack.Stack.{Stack}
 use Rattle.engine.specs.declared.parser_state.ParserState as Declared
-use Rattle.engine.specs.Ending.{if_then_else_, Ending, Ok, Err, Stop, on-ok, stop-if, is-negative, is-none, is-atomic}
-use Rattle.engine.specs.Reading.{Setting, most-attempts}
-use Rattle.engine.specs.Pest as Pest
-use Rattle.engine.specs.Pest.{ParserState, QueueableToken, Start, End, produces, with-end, set-queue, push-token, tracking, close-rule, tag-last, tag-node}
+use Rattle.reading.specs.Ending.{if_then_else_, Ending, Ok, Err, Stop, on-ok, stop-if, is-negative, is-none, is-atomic}
+use Rattle.reading.specs.Reading.{Setting, most-attempts}
+use Rattle.reading.specs.Pest as Pest
+use Rattle.reading.specs.Pest.{ParserState, QueueableToken, Start, End, produces, with-end, set-queue, push-token, tracking, close-rule, tag-last, tag-node}
 use Rattle.engine.specs.Areas.{Outside, view, queue-of, stack-of, span, checkpoint, positives-at, lengths-at, entries-at, popped-at}
 use Rattle.engine.specs.Attempts.{Tried, tried, tried-of, with-tried, noted, tracked, Track, kept, full, within}
 use Rattle.engine.specs.Tokens.{Written, Patched, Paired, Pushed}

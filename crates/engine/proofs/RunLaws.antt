@@ -12,26 +12,27 @@ use Rattle.engine.specs.declared.grammar.Refused.the-variants.{By}
 use Rattle.engine.specs.declared.parser_state.ParserState as State
 use Rattle.engine.specs.declared.parser_state.Ending as Declared
 use Rattle.engine.specs.declared.parser_state.Ending.the-variants as Code
-use Rattle.engine.specs.Ending.{Ending, Ok, Err, Stop}
-use Rattle.engine.specs.Grammar.{line-count, tree-at, root}
-use Rattle.engine.specs.Pest as Pest
-use Rattle.engine.specs.Pest.{ParserState}
+use Rattle.reading.specs.Ending.{Ending, Ok, Err, Stop}
+use Rattle.reading.specs.Grammar.{line-count, tree-at, root}
+use Rattle.reading.specs.Pest as Pest
+use Rattle.reading.specs.Pest.{ParserState}
 use Rattle.engine.specs.Areas.{positives-at, negatives-at, scratch-size, limit-of, view, view-end}
-use Rattle.engine.specs.Fit.{Fit}
+use Rattle.reading.specs.Fit.{Fit}
 use Rattle.engine.specs.Refusals.{refused-of}
-use Rattle.engine.specs.Outcome.{Input, Refusal, refusal, refused, capacity, setting, reading, answer, Answer, Outcome, laid, started, outcome}
-use Rattle.engine.specs.Conclude.{pest-answer, Concluding, ConcludeReady}
+use Rattle.reading.specs.Outcome.{Input, Refusal, refusal, refused, capacity, setting, reading, answer, Answer, Outcome, laid, started, outcome}
+use Rattle.reading.specs.Answer.{pest-answer}
+use Rattle.engine.specs.Conclude.{Concluding, ConcludeReady}
 use Rattle.engine.specs.Evaluation.{Ready, Line, evaluated}
-use Rattle.engine.specs.Run.{Ran}
-use Rattle.engine.proofs.QueueLaws.{top}
+use Rattle.reading.specs.Run.{Ran}
+use Rattle.reading.proofs.QueueLaws.{top}
 use Rattle.engine.proofs.Regions.{numbers-length}
 use Rattle.engine.proofs.TokenLaws.{queue-length}
-use Rattle.engine.proofs.Invariant.{Keeps, keeps-ok, keeps-err, keeps-stop, eval-keeps}
-use Rattle.engine.proofs.Agree.{initial-is, initial-fit}
-use Rattle.engine.proofs.Accepted as Accepted
-use Rattle.engine.proofs.Accepted.{Started, rule-still}
-use Rattle.engine.proofs.Runs.{tested, root-literals, root-steady, run-alike}
-use Rattle.engine.proofs.Demand3.{outcome-is}
+use Rattle.reading.proofs.Invariant.{Keeps, keeps-ok, keeps-err, keeps-stop, eval-keeps}
+use Rattle.reading.proofs.Agree.{initial-is, initial-fit}
+use Rattle.reading.proofs.Accepted as Accepted
+use Rattle.reading.proofs.Accepted.{Started, rule-still}
+use Rattle.reading.proofs.Runs.{tested, root-literals, root-steady, run-alike}
+use Rattle.reading.proofs.Demand3.{outcome-is}
 
 -- A call limit of 0 is none.
 pub limit-is : (l : ℕ) → limit-of 0 l ≡ Pest.new l .call-tracker .current-call-limit

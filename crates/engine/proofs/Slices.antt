@@ -14,11 +14,11 @@ use Rattle.matching.specs.Position.{match-string, bytes-of}
 use Rattle.matching.specs.declared.position.BytePosition.{BytePosition}
 use Rattle.matching.specs.declared.position.Matched.{Matched}
 use Rattle.matching.specs.declared.position.Matched.the-variants.{At, Failed}
-use Rattle.engine.specs.Pest as Pest
+use Rattle.reading.specs.Pest as Pest
 use Rattle.engine.specs.declared.areas.Pair.{Pair}
 use Rattle.engine.specs.declared.stack_match.Next.{Next}
-use Rattle.engine.specs.Ending.{Span}
-use Rattle.engine.specs.Pest.{slice, all-match, as-str}
+use Rattle.reading.specs.Ending.{Span}
+use Rattle.reading.specs.Pest.{slice, all-match, as-str}
 use Rattle.engine.specs.Areas.{pairs, span}
 use Rattle.engine.specs.Pairs.{pair}
 use Rattle.engine.specs.StackMatch.{entry-at, next-of}

@@ -9,7 +9,7 @@ use native.Mathlib.Omega.{arith}
 use lib.IntN.{ℤ}
 use lib.ListN.{length}
 use Rattle.engine.specs.declared.node.Line.{Line}
-use Rattle.engine.specs.Grammar.{node-at, kind-at, line-count}
+use Rattle.reading.specs.Grammar.{node-at, kind-at, line-count}
 use Rattle.engine.specs.Lines.{line-of}
 use Rattle.engine.specs.Spine.{left-of, Fork, spine-line, Forks, Slopes, Spined}
 

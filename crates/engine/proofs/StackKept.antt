@@ -8,13 +8,13 @@ use lib.IntN.{ℤ}
 use lib.ListN.{length}
 use lib.Dec.{ltb, leb}
 use borrow.Author.Tests.{ltb-false, leb-false}
-use Rattle.engine.specs.declared.parser_state.Cause.{Cause}
-use Rattle.engine.specs.declared.parser_state.Cause.the-variants.{StackFull}
-use Rattle.engine.specs.Ending.{Ending, Ok, Err, Stop, stop-if, Span}
-use Rattle.engine.specs.Reading.{debt}
-use Rattle.engine.specs.Pest.{Stack, ParserState, set-position, set-stack, push, pop, moved, as-str, match-string, push-end, stack-pop, stack-match-pop, stack-match-peek-slice, normalize-index, normalize-end, slice, all-match}
-use Rattle.engine.specs.Sound.{Sound}
-use Rattle.engine.proofs.SoundLaws.{sound-push, sound-pop, lengths-pop}
+use Rattle.reading.specs.declared.parser_state.Cause.{Cause}
+use Rattle.reading.specs.declared.parser_state.Cause.the-variants.{StackFull}
+use Rattle.reading.specs.Ending.{Ending, Ok, Err, Stop, stop-if, Span}
+use Rattle.reading.specs.Reading.{debt}
+use Rattle.reading.specs.Pest.{Stack, ParserState, set-position, set-stack, push, pop, moved, as-str, match-string, push-end, stack-pop, stack-match-pop, stack-match-peek-slice, normalize-index, normalize-end, slice, all-match}
+use Rattle.reading.specs.Sound.{Sound}
+use Rattle.reading.proofs.SoundLaws.{sound-push, sound-pop, lengths-pop}
 use Rattle.engine.proofs.PopMatch.{pop-cache}
 
 -- n is m with another position and another sound stack.

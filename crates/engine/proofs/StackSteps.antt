@@ -9,17 +9,19 @@ use lib.ListN.{length, take, drop}
 use lib.Dec.{ltb}
 use borrow.Author.Tests.{eq-eqb, ne-eqb, lt-ltb, le-ltb, le-leb, lt-leb}
 use Rattle.matching.specs.declared.span.Span as Code
-use Rattle.engine.specs.Pest as Pest
+use Rattle.reading.specs.Pest as Pest
 use Rattle.engine.specs.declared.areas.Pair.{Pair}
 use Rattle.engine.specs.declared.stack.Stack.{Stack}
-use Rattle.engine.specs.Ending.{if_then_else_, Span, Checkpoint}
-use Rattle.engine.specs.Reading.{debt}
-use Rattle.engine.specs.Pest.{snapshot, clear-snapshot, restore, truncate}
+use Rattle.reading.specs.Ending.{if_then_else_, Span, Checkpoint}
+use Rattle.reading.specs.Reading.{debt}
+use Rattle.reading.specs.Pest.{snapshot, clear-snapshot, restore, truncate}
 use Rattle.engine.specs.Areas.{pairs, span, checkpoint, stack-of, Outside}
 use Rattle.engine.specs.Pairs.{pair, put, drained, refilled}
 use Rattle.engine.specs.Bounded.{Push, kept, Take, got, empty, pushed, taken, taken-from}
-use Rattle.engine.specs.Sound.{Fits, fits-none, fits-one, Sound, StackReady, OutsideStack}
-use Rattle.engine.proofs.StackLaws.{pest}
+use Rattle.reading.specs.Sound.{Fits, fits-none, fits-one, Sound}
+use Rattle.engine.specs.StackReady.{StackReady, OutsideStack}
+use Rattle.reading.proofs.StackLaws.{pest}
+use Rattle.reading.proofs.SoundLaws.{fits-high}
 use Rattle.engine.proofs.Regions.{outside-put, pairs-put, pairs-length, pairs-same, pairs-last, pairs-drop, same-above, same-below, stack-refl, stack-trans, stack-below, stack-above}
 use Rattle.engine.proofs.Moves.{drained-outside, drained-pairs, refilled-outside, refilled-pairs}
 
@@ -35,10 +37,6 @@ pub record Top (h p tall low more : ℕ) : Type 0 where
   pub own : low ≤ tall
   pub high : tall ≤ 128
   pub owing : (tall - low) + more ≡ p
-
-pub fits-high : {h : ℕ} {ks : List Checkpoint} → Fits h ks → h ≤ 128
-fits-high (fits-none l) = l
-fits-high (fits-one l u o f) = l
 
 top-fits : {h : ℕ} {k : Checkpoint} {ks : List Checkpoint} (p : ℕ) → Fits h (k ∷ ks) → p ≡ debt (k ∷ ks) → Top h p (k .height) (k .lowest) (debt ks)
 top-fits p (fits-one l u o f) e = record { under = u; own = o; high = fits-high f; owing = sym e }

@@ -21,23 +21,24 @@ use Rattle.engine.specs.declared.stack.Popped.the-variants as Popped
 use Rattle.engine.specs.declared.stack_match.Index.the-variants as Index
 use Rattle.engine.specs.declared.stack_match.MatchPopped.the-variants as MatchPopped
 use Rattle.engine.specs.declared.parser_state.Ending as Code·ending
-use Rattle.engine.specs.Pest as Pest
+use Rattle.reading.specs.Pest as Pest
 use Rattle.engine.specs.declared.stack.Stack.{Stack}
 use Rattle.engine.specs.declared.stack.Pushed.{Pushed}
 use Rattle.engine.specs.declared.stack.Popped.{Popped}
 use Rattle.engine.specs.declared.stack_match.Index.{Index}
 use Rattle.engine.specs.declared.stack_match.MatchPopped.{MatchPopped}
 use Rattle.engine.specs.declared.parser_state.ParserState.{ParserState}
-use Rattle.engine.specs.declared.parser_state.Cause.the-variants.{EmptyStack, StackFull}
-use Rattle.engine.specs.Ending.{if_then_else_, Ending, Ok, Err, Stop, stop-if, Span}
-use Rattle.engine.specs.Reading.{debt}
-use Rattle.engine.specs.Pest.{set-position, set-stack, push, pop, as-str, moved, stack-pop, stack-match-pop, stack-match-peek-slice, normalize-index, normalize-end, slice, all-match}
+use Rattle.reading.specs.declared.parser_state.Cause.the-variants.{EmptyStack, StackFull}
+use Rattle.reading.specs.Ending.{if_then_else_, Ending, Ok, Err, Stop, stop-if, Span}
+use Rattle.reading.specs.Reading.{debt}
+use Rattle.reading.specs.Pest.{set-position, set-stack, push, pop, as-str, moved, stack-pop, stack-match-pop, stack-match-peek-slice, normalize-index, normalize-end, slice, all-match}
 use Rattle.engine.specs.Areas.{span, checkpoint, stack-of, view, view-end}
 use Rattle.engine.specs.Bounded.{Push, kept, Take, got, pushed, taken, taken-from, push-of, take-of}
-use Rattle.engine.specs.Sound.{Sound, StateReady, OutsideStack}
+use Rattle.reading.specs.Sound.{Sound}
+use Rattle.engine.specs.StackReady.{StateReady, OutsideStack}
 use Rattle.engine.specs.StackMatch.{match-of, index-of, match-end}
 use Rattle.engine.proofs.Regions.{pairs-length, numbers-length}
-use Rattle.engine.proofs.SoundLaws.{positives-kept, negatives-kept, ready-of}
+use Rattle.engine.proofs.ReadyLaws.{positives-kept, negatives-kept, ready-of}
 use Rattle.engine.proofs.Matching.{match-string-same}
 use Rattle.engine.proofs.PopMatch.{Took, took}
 

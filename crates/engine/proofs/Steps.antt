@@ -10,40 +10,40 @@ use lib.IntN.{ℤ}
 use borrow.Author.Tests.{lt-ltb}
 use lib.ListN.{length, length-append}
 use Rattle.matching.specs.declared.position.BytePosition.{BytePosition}
-use Rattle.engine.specs.declared.parser_state.Lookahead.{Lookahead}
-use Rattle.engine.specs.declared.parser_state.Atomicity.{Atomicity}
-use Rattle.engine.specs.declared.parser_state.Cause.{Cause}
-use Rattle.engine.specs.declared.parser_state.Cause.the-variants as Cause-of
-use Rattle.engine.specs.declared.call_limit_tracker.LimitKind.the-variants as LimitKind
+use Rattle.reading.specs.declared.parser_state.Lookahead.{Lookahead}
+use Rattle.reading.specs.declared.parser_state.Atomicity.{Atomicity}
+use Rattle.reading.specs.declared.parser_state.Cause.{Cause}
+use Rattle.reading.specs.declared.parser_state.Cause.the-variants as Cause-of
+use Rattle.reading.specs.declared.call_limit_tracker.LimitKind.the-variants as LimitKind
 use Rattle.engine.specs.declared.attempts.Noted.{Noted}
 use Rattle.engine.specs.declared.parser_state.ParserState as Code
 use Rattle.engine.specs.declared.parser_state.Ending as Coded
 use Rattle.engine.specs.declared.parser_state.Ending.the-variants as Coded-of
 use Rattle.engine.specs.declared.entry.Entry as Door
-use Rattle.engine.specs.Ending.{if_then_else_, Ending, Ok, Err, Stop, on-ok, stop-if}
-use Rattle.engine.specs.Grammar as Grammar
-use Rattle.engine.specs.Grammar.{Exp, tree-at}
-use Rattle.engine.specs.Nullable.{nullable}
-use Rattle.engine.specs.Reading.{Setting, is-set}
-use Rattle.engine.specs.Pest as Pest
-use Rattle.engine.specs.Pest.{ParserState, CallLimitTracker, Entered}
+use Rattle.reading.specs.Ending.{if_then_else_, Ending, Ok, Err, Stop, on-ok, stop-if}
+use Rattle.reading.specs.Grammar as Grammar
+use Rattle.reading.specs.Grammar.{Exp, tree-at}
+use Rattle.reading.specs.Nullable.{nullable}
+use Rattle.reading.specs.Reading.{Setting, is-set}
+use Rattle.reading.specs.Pest as Pest
+use Rattle.reading.specs.Pest.{ParserState, CallLimitTracker, Entered}
 use Rattle.engine.specs.Areas as Areas
 use Rattle.engine.specs.Areas.{queue-of, view, view-end}
 use Rattle.engine.specs.Entry.{Entry, opened, refused, view-entry, entering, go-on}
 use Rattle.engine.specs.Attempts.{tried-of, noted, Few}
-use Rattle.engine.specs.Sound.{StateReady}
+use Rattle.engine.specs.StackReady.{StateReady}
 use Rattle.engine.specs.Rule.{starting, Recording, Tracking}
 use Rattle.engine.specs.Ends.{EndReady, PushEndReady, RuleEndReady, atomic-back}
-use Rattle.engine.specs.Fit.{Fit}
+use Rattle.reading.specs.Fit.{Fit}
 use Rattle.engine.specs.Evaluation.{setting-of, Ready, Line, evaluated}
-use Rattle.engine.proofs.Trees.{still}
+use Rattle.reading.proofs.Trees.{still}
 use Rattle.engine.proofs.Regions.{pairs-length}
 use Rattle.engine.proofs.TokenLaws.{queue-length}
 use Rattle.engine.proofs.TrackerLaws.{check-limit-is}
 use Rattle.engine.proofs.StateSteps.{state-ready}
-use Rattle.engine.proofs.Invariant.{Tested, After, Keeps, keeps-ok, keeps-err, keeps-stop, KeepsFrom, eval-keeps, checkpoint-fit, pushed-fit, toggled, toggled-back}
+use Rattle.reading.proofs.Invariant.{Tested, After, Keeps, keeps-ok, keeps-err, keeps-stop, KeepsFrom, eval-keeps, checkpoint-fit, pushed-fit, toggled, toggled-back}
 use Rattle.engine.proofs.RuleLaws.{rule-is}
-use Rattle.engine.proofs.Accepted.{Accepted, accepted, tree-literals, body-literals, tree-still, tree-steady, body-steady, body-closed, rule-still, rule-still-is}
+use Rattle.reading.proofs.Accepted.{Accepted, accepted, tree-literals, body-literals, tree-still, tree-steady, body-steady, body-closed, rule-still, rule-still-is}
 
 -- What is known of a value is known of the variant that it is.
 pub told : (a b : List ℕ) (r y : Coded.Ending) (x : Ending ParserState) → view-end a b r ≡ x → r ≡ y → view-end a b y ≡ x

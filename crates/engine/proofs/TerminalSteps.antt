@@ -15,19 +15,19 @@ use Rattle.matching.specs.Position as Position
 use Rattle.matching.proofs.Lead.{within-is}
 use Rattle.engine.specs.declared.node.Line as Read
 use Rattle.engine.specs.declared.node.Ends.{Ends}
-use Rattle.engine.specs.Ending.{if_then_else_, Ending, Ok, Err}
-use Rattle.engine.specs.Grammar as Grammar
-use Rattle.engine.specs.Grammar.{Exp, node-at, kind-at, tree-at}
-use Rattle.engine.specs.Reading.{Setting}
-use Rattle.engine.specs.Pest as Pest
-use Rattle.engine.specs.Pest.{ParserState}
+use Rattle.reading.specs.Ending.{if_then_else_, Ending, Ok, Err}
+use Rattle.reading.specs.Grammar as Grammar
+use Rattle.reading.specs.Grammar.{Exp, node-at, kind-at, tree-at}
+use Rattle.reading.specs.Reading.{Setting}
+use Rattle.reading.specs.Pest as Pest
+use Rattle.reading.specs.Pest.{ParserState}
 use Rattle.engine.specs.Lines.{line-of, ends-of}
 use Rattle.engine.specs.Spine.{Fork}
-use Rattle.engine.specs.Fit.{Fit}
+use Rattle.reading.specs.Fit.{Fit}
 use Rattle.engine.specs.Evaluation.{setting-of, Line, evaluated, opens-call}
-use Rattle.engine.proofs.Matchers.{string-same, folded-same, range-same, skip-same}
+use Rattle.reading.proofs.Matchers.{string-same, folded-same, range-same, skip-same}
 use Rattle.engine.proofs.LineSteps.{three}
-use Rattle.engine.proofs.Accepted.{Accepted, Fits, Part, facts, tree-kind}
+use Rattle.reading.proofs.Accepted.{Accepted, Fits, Part, facts, tree-kind}
 
 four-five : (k : ℕ) → (k ≤ 3 → ⊥) → k ≤ 5 → (k ≡ 4 → ⊥) → (k ≡ 5 → ⊥) → ⊥
 four-five k lo hi n₄ n₅ = omega arith

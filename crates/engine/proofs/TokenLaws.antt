@@ -11,15 +11,17 @@ use lib.ListN.{length, getD, take, set, length-append, length-set, List·getD-ap
 use lib.Seq.{getD-set-same, getD-set-other, take-append-le, take-all, take-suc, set-append-left, set-out, set-at, getD-at, set-getD}
 use lib.Dec.{eqb}
 use borrow.Author.Tests.{eq-eqb, ne-eqb}
-use Rattle.engine.specs.Ending.{if_then_else_}
-use Rattle.engine.specs.Forest.{Forest, empty, add, Token, tokens-from, size}
-use Rattle.engine.specs.Pest.{QueueableToken, Start, End, with-end, tag-last}
+use Rattle.reading.specs.Ending.{if_then_else_}
+use Rattle.reading.specs.Forest.{Token}
+use Rattle.reading.specs.Pest.{QueueableToken, Start, End, with-end, tag-last}
 use Rattle.engine.specs.Areas.{Outside, token-at, queue-of}
-use Rattle.engine.specs.Outcome.{numbers, filled}
-use Rattle.engine.specs.Tokens.{token-of, tokens-of, five-at, put-token, Written, Pushed, Patched, Tagged, Settled, SettledTo}
+use Rattle.reading.specs.Outcome.{numbers, filled}
+use Rattle.reading.specs.Answer.{token-of, tokens-of}
+use Rattle.engine.specs.Tokens.{five-at, put-token, Written, Pushed, Patched, Tagged, Settled, SettledTo}
 use Rattle.engine.proofs.Regions.{outside-refl, outside-trans, outside-wider, outside-set}
 use Rattle.engine.proofs.AreaLaws.{outside-set-in}
-use Rattle.engine.proofs.QueueLaws.{queue-from, tag-at-end, tag-at-start}
+use Rattle.reading.proofs.QueueLaws.{tag-at-end, tag-at-start}
+use Rattle.reading.proofs.AnswerLaws.{tokens-append}
 
 -- ── a token by its five numbers ──
 abbrev pub token-by : Token → QueueableToken
@@ -303,10 +305,6 @@ module _ (a : List ℕ) (n u : ℕ) (f : n ≡ 0 → ⊥) (h : n * 5 ≤ length 
       }
 
 -- ── the area at the end of a run ──
-tokens-append : (q r : List QueueableToken) → tokens-of (q ++ r) ≡ tokens-of q ++ tokens-of r
-tokens-append [] r = refl
-tokens-append (t ∷ q) r = ap (λ (l : List Token). token-of t ∷ l) (tokens-append q r)
-
 numbers-append : (ts us : List Token) → numbers (ts ++ us) ≡ numbers ts ++ numbers us
 numbers-append [] us = refl
 numbers-append (t ∷ ts) us = ap (λ (l : List ℕ). t .kind ∷ t .partner ∷ t .position ∷ t .rule ∷ t .tag ∷ l) (numbers-append ts us)
@@ -385,12 +383,3 @@ pub settled-area : (n : ℕ) (a b c : List ℕ) → n * 5 ≤ length a → Settl
 settled-area n a b c h p e =
     e ∙ tokens-area b n (omega (arith, p .others .size)) (p .written)
     ∙ ap₂ (λ (k : ℕ) (q : List QueueableToken). filled k (numbers (tokens-of q))) (p .others .size) (p .queue)
-
--- pest's queue of a forest stands for the forest's tokens.
-pub queue-tokens : (n : ℕ) (f : Forest) → tokens-of (queue-from n f) ≡ tokens-from n f
-queue-tokens n empty = refl
-queue-tokens n (add f r t s e c) =
-    tokens-append (queue-from n f) _
-    ∙ ap₂ (λ (x y : List Token). x ++ (token-of (Start (n + size f + suc (size c)) s) ∷ y)) (queue-tokens n f)
-    (tokens-append (queue-from (suc (n + size f)) c) (End (n + size f) r t e ∷ [])
-    ∙ ap (λ (x : List Token). x ++ (token-of (End (n + size f) r t e) ∷ [])) (queue-tokens (suc (n + size f)) c))

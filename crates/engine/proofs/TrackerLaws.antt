@@ -8,10 +8,10 @@ use native.Mathlib.Omega.{arith}
 use native.Mathlib.Numerals.{add-one}
 use lib.Dec.{leb, ltb}
 use borrow.Author.Tests.{leb-false}
-use Rattle.engine.specs.declared.call_limit_tracker.LimitKind.{LimitKind}
-use Rattle.engine.specs.declared.call_limit_tracker.LimitKind.the-variants as LimitKind
-use Rattle.engine.specs.Ending.{if_then_else_, Ending, Ok, Err}
-use Rattle.engine.specs.Pest.{ParserState, CallLimit, CallLimitTracker, Entered, exceeded, reached, one-more, enter, set-call-tracker, check-limit}
+use Rattle.reading.specs.declared.call_limit_tracker.LimitKind.{LimitKind}
+use Rattle.reading.specs.declared.call_limit_tracker.LimitKind.the-variants as LimitKind
+use Rattle.reading.specs.Ending.{if_then_else_, Ending, Ok, Err}
+use Rattle.reading.specs.Pest.{ParserState, CallLimit, CallLimitTracker, Entered, exceeded, reached, one-more, enter, set-call-tracker, check-limit}
 use Rattle.engine.specs.Areas.{limit-of}
 use Rattle.engine.specs.Entry.{Entry, opened, refused, by-depth, entering, go-on}
 

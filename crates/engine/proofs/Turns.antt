@@ -8,17 +8,17 @@ use native.Mathlib.Omega.{arith}
 use lib.Dec.{ltb}
 use lib.IntN.{ℤ}
 use lib.ListN.{length}
-use Rattle.engine.specs.declared.parser_state.Cause.{Cause}
-use Rattle.engine.specs.Ending.{Ending, Ok, Err, Stop}
-use Rattle.engine.specs.Grammar as Grammar
-use Rattle.engine.specs.Grammar.{Exp, tree-at}
-use Rattle.engine.specs.Nullable.{nullable}
-use Rattle.engine.specs.Reading.{Setting}
-use Rattle.engine.specs.Pest as Pest
-use Rattle.engine.specs.Pest.{ParserState}
+use Rattle.reading.specs.declared.parser_state.Cause.{Cause}
+use Rattle.reading.specs.Ending.{Ending, Ok, Err, Stop}
+use Rattle.reading.specs.Grammar as Grammar
+use Rattle.reading.specs.Grammar.{Exp, tree-at}
+use Rattle.reading.specs.Nullable.{nullable}
+use Rattle.reading.specs.Reading.{Setting}
+use Rattle.reading.specs.Pest as Pest
+use Rattle.reading.specs.Pest.{ParserState}
 use Rattle.engine.specs.Entry.{opened, refused, entering}
 use Rattle.engine.specs.Evaluation.{setting-of, Ready, Line, evaluated}
-use Rattle.engine.proofs.Invariant.{After}
+use Rattle.reading.proofs.Invariant.{After}
 use Rattle.engine.proofs.Steps.{ready-on, kept, moves-on, entry-refused, entry-open}
 
 unroll : (f : ℕ) (F : ParserState → Ending ParserState) (m : ParserState) → 0 < f → Pest.repeat f F m ≡ Pest.round-end (F m) (λ t. Pest.repeat (f - 1) F t)

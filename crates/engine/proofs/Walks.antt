@@ -11,16 +11,16 @@ use lib.IntN.{ℤ}
 use lib.ListN.{length}
 use Rattle.engine.specs.declared.node.Line as Read
 use Rattle.engine.specs.declared.spine.Spine.{Spine}
-use Rattle.engine.specs.declared.parser_state.Cause.{Cause}
-use Rattle.engine.specs.Ending.{if_then_else_, Ending, Ok, Err, Stop}
-use Rattle.engine.specs.Grammar.{node-at, kind-at, line-count, tree-at}
-use Rattle.engine.specs.Reading.{Setting}
-use Rattle.engine.specs.Pest.{ParserState}
+use Rattle.reading.specs.declared.parser_state.Cause.{Cause}
+use Rattle.reading.specs.Ending.{if_then_else_, Ending, Ok, Err, Stop}
+use Rattle.reading.specs.Grammar.{node-at, kind-at, line-count, tree-at}
+use Rattle.reading.specs.Reading.{Setting}
+use Rattle.reading.specs.Pest.{ParserState}
 use Rattle.engine.specs.Lines.{line-of}
 use Rattle.engine.specs.Spine.{left-of, Fork, spine-line, Forks, Slopes, Spined}
-use Rattle.engine.specs.Fit.{Fit}
+use Rattle.reading.specs.Fit.{Fit}
 use Rattle.engine.specs.Evaluation.{setting-of, Ready, Line, evaluated}
-use Rattle.engine.proofs.Accepted.{Accepted, Fits, facts, tree-kind}
+use Rattle.reading.proofs.Accepted.{Accepted, Fits, facts, tree-kind}
 use Rattle.engine.proofs.Spines.{spine-first}
 use Rattle.engine.proofs.Climbs as Climbs
 use Rattle.engine.proofs.Climbs.{Onward, go, stay, going, onto, right-of, Forked, rise, climb-runs}

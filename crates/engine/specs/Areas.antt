@@ -6,7 +6,7 @@ use mathlib.Core.Option.{Option, none, some}
 use Prim.Native.Nat.{ℕ, zero, suc, _+_, _*_, _≤_, _<_}
 use lib.ListN.{length, getD}
 use lib.Dec.{eqb}
-use Rattle.engine.specs.declared.call_limit_tracker.LimitKind.{LimitKind}
+use Rattle.reading.specs.declared.call_limit_tracker.LimitKind.{LimitKind}
 use Rattle.engine.specs.declared.call_limit_tracker.LimitReached.{LimitReached}
 use Rattle.engine.specs.declared.call_limit_tracker.LimitReached.the-variants.{No, By}
 use Rattle.engine.specs.declared.call_limit_tracker.CallLimitTracker.{CallLimitTracker}
@@ -14,10 +14,10 @@ use Rattle.engine.specs.declared.stack.Stack.{Stack}
 use Rattle.engine.specs.declared.parser_state.ParserState.{ParserState}
 use Rattle.engine.specs.declared.parser_state.Ending.{Ending}
 use Rattle.engine.specs.declared.parser_state.Ending.the-variants as Code
-use Rattle.engine.specs.Ending as Model
-use Rattle.engine.specs.Ending.{if_then_else_, Span, Checkpoint}
-use Rattle.engine.specs.Pest as Pest
-use Rattle.engine.specs.Pest.{QueueableToken, Start, End, CallLimit}
+use Rattle.reading.specs.Ending as Model
+use Rattle.reading.specs.Ending.{if_then_else_, Span, Checkpoint}
+use Rattle.reading.specs.Pest as Pest
+use Rattle.reading.specs.Pest.{QueueableToken, Start, End, CallLimit}
 
 -- ── Regions of an area ──
 -- The n pairs of numbers that stand from `at` on, the last one first.

@@ -9,9 +9,9 @@ use Rattle.engine.specs.declared.attempts.Attempts.{Attempts}
 use Rattle.engine.specs.declared.attempts.Noted.{Noted}
 use Rattle.engine.specs.declared.attempts.Tracked as Code
 use Rattle.engine.specs.declared.attempts.Tracked.the-variants.{Kept, Full}
-use Rattle.engine.specs.Ending.{if_then_else_}
-use Rattle.engine.specs.Reading.{most-attempts}
-use Rattle.engine.specs.Pest.{ParserState, set-attempts}
+use Rattle.reading.specs.Ending.{if_then_else_}
+use Rattle.reading.specs.Reading.{most-attempts}
+use Rattle.reading.specs.Pest.{ParserState, set-attempts}
 use Rattle.engine.specs.Areas.{numbers, positives-at, negatives-at, scratch-size}
 
 -- `attempt_pos`, `pos_attempts` and `neg_attempts`

@@ -8,9 +8,9 @@ use Rattle.engine.specs.declared.stack.Pushed.{Pushed}
 use Rattle.engine.specs.declared.stack.Pushed.the-variants as Pushed
 use Rattle.engine.specs.declared.stack.Popped.{Popped}
 use Rattle.engine.specs.declared.stack.Popped.the-variants as Popped
-use Rattle.engine.specs.Ending.{if_then_else_, Span}
-use Rattle.engine.specs.Reading.{most-entries, most-debt, debt}
-use Rattle.engine.specs.Pest as Pest
+use Rattle.reading.specs.Ending.{if_then_else_, Span}
+use Rattle.reading.specs.Reading.{most-entries, most-debt, debt}
+use Rattle.reading.specs.Pest as Pest
 use Rattle.engine.specs.Areas.{span, stack-of}
 
 pub data Push : Type 0 where

@@ -3,13 +3,13 @@ use mathlib.Core.Bool.{Bool, true, false}
 use mathlib.Core.List.{List}
 use Prim.Native.Nat.{ℕ, _≤_}
 use Rattle.matching.specs.declared.position.BytePosition.{BytePosition}
-use Rattle.engine.specs.declared.parser_state.Atomicity.{Atomicity}
+use Rattle.reading.specs.declared.parser_state.Atomicity.{Atomicity}
 use Rattle.engine.specs.declared.parser_state.ParserState as State
 use Rattle.engine.specs.declared.parser_state.Ending as Declared
 use Rattle.engine.specs.declared.parser_state.Ending.the-variants as Code
-use Rattle.engine.specs.Ending.{if_then_else_, Ending, Ok, Err, Stop}
-use Rattle.engine.specs.Pest.{ParserState, set-atomicity, limit-reached}
-use Rattle.engine.specs.Sound.{StateReady, PushReady}
+use Rattle.reading.specs.Ending.{if_then_else_, Ending, Ok, Err, Stop}
+use Rattle.reading.specs.Pest.{ParserState, set-atomicity, limit-reached}
+use Rattle.engine.specs.StackReady.{StateReady, PushReady}
 use Rattle.engine.specs.Rule.{Recording, Tracking}
 
 -- The ending's state is ready, and holds no fewer than n tokens.

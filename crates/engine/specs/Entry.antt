@@ -2,13 +2,13 @@
 use mathlib.Core.Bool.{Bool, true, false}
 use mathlib.Core.List.{List}
 use Prim.Native.Nat.{ℕ}
-use Rattle.engine.specs.declared.call_limit_tracker.LimitKind.the-variants as LimitKind
+use Rattle.reading.specs.declared.call_limit_tracker.LimitKind.the-variants as LimitKind
 use Rattle.engine.specs.declared.call_limit_tracker.Admitted.{Admitted}
 use Rattle.engine.specs.declared.call_limit_tracker.Admitted.the-variants.{Yes, No}
 use Rattle.engine.specs.declared.entry.Entry as Code
 use Rattle.engine.specs.declared.entry.Entry.the-variants.{Open, Refused}
-use Rattle.engine.specs.Ending.{if_then_else_, Ending, Ok, Err}
-use Rattle.engine.specs.Pest.{ParserState, CallLimitTracker, Entered, reached, enter, set-call-tracker}
+use Rattle.reading.specs.Ending.{if_then_else_, Ending, Ok, Err}
+use Rattle.reading.specs.Pest.{ParserState, CallLimitTracker, Entered, reached, enter, set-call-tracker}
 use Rattle.engine.specs.Areas.{tracker-of, view}
 
 abbrev pub entered-of : Admitted → Entered

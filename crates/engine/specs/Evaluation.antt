@@ -8,15 +8,15 @@ use lib.Dec.{eqb}
 use lib.IntN.{ℤ}
 use lib.ListN.{length}
 use Rattle.matching.specs.Utf8.{within}
-use Rattle.engine.specs.Ending.{Ending}
-use Rattle.engine.specs.Grammar.{Exp, line-count, misfit, rule-at}
-use Rattle.engine.specs.Nullable.{still-repeat}
-use Rattle.engine.specs.Reading.{Setting}
-use Rattle.engine.specs.Pest as Pest
-use Rattle.engine.specs.Pest.{ParserState}
+use Rattle.reading.specs.Ending.{Ending}
+use Rattle.reading.specs.Grammar.{Exp, line-count, misfit, rule-at}
+use Rattle.reading.specs.Nullable.{still-repeat}
+use Rattle.reading.specs.Reading.{Setting}
+use Rattle.reading.specs.Pest as Pest
+use Rattle.reading.specs.Pest.{ParserState}
 use Rattle.engine.specs.Areas.{scratch-size}
-use Rattle.engine.specs.Sound.{most-checkpoints}
-use Rattle.engine.specs.Fit.{Fit}
+use Rattle.engine.specs.StackReady.{most-checkpoints}
+use Rattle.reading.specs.Fit.{Fit}
 
 abbrev pub setting-of : List ℤ → (literals text : List ℕ) → (capacity : ℕ) → Setting
 setting-of ns literals text capacity = record { text = text; rule-at = rule-at ns literals; capacity = capacity }

@@ -1,20 +1,10 @@
-pub mod Ending
-pub mod Grammar
-pub mod Nullable
-pub mod Forest
-pub mod Reading
-pub mod Outcome
-pub mod Pest
-pub mod Ford
-pub mod Cases
 pub mod Areas
 pub mod Pairs
 pub mod Bounded
-pub mod Sound
+pub mod StackReady
 pub mod Entry
 pub mod Tokens
 pub mod Lines
-pub mod Fit
 pub mod Attempts
 pub mod Report
 pub mod Evaluation
@@ -24,5 +14,3 @@ pub mod StackMatch
 pub mod Rule
 pub mod Ends
 pub mod Conclude
-pub mod Run
-pub mod Demand3

@@ -12,8 +12,8 @@ use Rattle.engine.specs.declared.node.Field.{Field}
 use Rattle.engine.specs.declared.grammar.Tests.{Tests}
 use Rattle.engine.specs.declared.grammar.Fault.{Fault}
 use Rattle.engine.specs.declared.grammar.Fault.the-variants.{No, At}
-use Rattle.engine.specs.Grammar.{Node, natural, count, edge, literal-part, scalar, nil, between, name, called, line-fits, node-at, kind-at}
-use Rattle.engine.specs.Nullable.{flag}
+use Rattle.reading.specs.Grammar.{Node, natural, count, edge, literal-part, scalar, nil, between, name, called, line-fits, node-at, kind-at}
+use Rattle.reading.specs.Nullable.{flag}
 
 -- A node whose fields are read as natural numbers.
 abbrev pub line-of : Node → Line

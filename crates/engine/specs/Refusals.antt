@@ -10,7 +10,7 @@ use lib.ListN.{length}
 use Rattle.matching.specs.Utf8.{within}
 use Rattle.engine.specs.declared.grammar.Refused.{Refused}
 use Rattle.engine.specs.declared.grammar.Refused.the-variants.{No, By}
-use Rattle.engine.specs.Outcome.{Input, Refusal, refuse, unless, good-text}
+use Rattle.reading.specs.Outcome.{Input, Refusal, refuse, unless, good-text}
 
 abbrev pub refused-of : Option Refusal → Refused
 refused-of none = No

@@ -7,9 +7,9 @@ use lib.ListN.{length, take}
 use Rattle.engine.specs.declared.parser_state.ParserState as State
 use Rattle.engine.specs.declared.parser_state.Ending as Answer
 use Rattle.engine.specs.declared.parser_state.Ending.the-variants as Answer-of
-use Rattle.engine.specs.Ending.{if_then_else_, Ending, Ok}
-use Rattle.engine.specs.Reading.{Setting, most-entries, most-debt}
-use Rattle.engine.specs.Pest.{ParserState, Start, produces, push-token, set-queue}
+use Rattle.reading.specs.Ending.{if_then_else_, Ending, Ok}
+use Rattle.reading.specs.Reading.{Setting, most-entries, most-debt}
+use Rattle.reading.specs.Pest.{ParserState, Start, produces, push-token, set-queue}
 use Rattle.engine.specs.Areas.{Outside}
 use Rattle.engine.specs.Attempts.{Lent}
 use Rattle.engine.specs.Tokens.{Written}

@@ -11,7 +11,7 @@ use Rattle.engine.specs.declared.spine.Spine.{Spine}
 use Rattle.engine.specs.declared.parser_state.ParserState.{ParserState}
 use Rattle.engine.specs.declared.parser_state.Ending.{Ending}
 use Rattle.engine.specs.declared.parser_state.Ending.the-variants.{Ok, Err}
-use Rattle.engine.specs.Grammar.{natural, node-at, kind-at, line-count}
+use Rattle.reading.specs.Grammar.{natural, node-at, kind-at, line-count}
 
 abbrev pub left-of : List ℤ → (line : ℕ) → ℕ
 left-of ns l = natural (node-at ns l .a)

@@ -11,9 +11,9 @@ use Rattle.engine.specs.declared.stack_match.Index.the-variants.{At, Out
 use Rattle.engine.specs.declared.stack_match.Next.{Next}
 use Rattle.engine.specs.declared.stack_match.MatchPopped.{MatchPopped}
 use Rattle.engine.specs.declared.stack_match.MatchPopped.the-variants as MatchPopped
-use Rattle.engine.specs.declared.parser_state.Cause.the-variants.{StackFull}
-use Rattle.engine.specs.Ending.{if_then_else_, Ending, Ok, Err, Stop, Span}
-use Rattle.engine.specs.Pest.{ParserState, set-position, set-stack}
+use Rattle.reading.specs.declared.parser_state.Cause.the-variants.{StackFull}
+use Rattle.reading.specs.Ending.{if_then_else_, Ending, Ok, Err, Stop, Span}
+use Rattle.reading.specs.Pest.{ParserState, set-position, set-stack}
 use Rattle.engine.specs.Areas.{entries-at, span, stack-of}
 
 -- The entry at an index from the bottom.

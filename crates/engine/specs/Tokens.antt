@@ -3,18 +3,10 @@ use mathlib.Core.Path.{_≡_}
 use mathlib.Core.List.{List, [], _∷_, _++_}
 use Prim.Native.Nat.{ℕ, _+_, _-_, _*_, _<_}
 use lib.ListN.{length, getD, set}
-use Rattle.engine.specs.Forest.{Token, start-token, end-token}
-use Rattle.engine.specs.Pest.{QueueableToken, Start, End, with-end, tag-last}
+use Rattle.reading.specs.Forest.{Token}
+use Rattle.reading.specs.Answer.{token-of}
+use Rattle.reading.specs.Pest.{QueueableToken, Start, End, with-end, tag-last}
 use Rattle.engine.specs.Areas.{Outside, token-at, queue-of}
-
--- The five numbers that a token of pest's stands for: "rule and tag are 0 in a Start".
-abbrev pub token-of : QueueableToken → Token
-token-of (Start i p) = start-token i p
-token-of (End i r t p) = end-token i p r t
-
-abbrev pub tokens-of : List QueueableToken → List Token
-tokens-of [] = []
-tokens-of (t ∷ q) = token-of t ∷ tokens-of q
 
 -- The five numbers that stand at an index.
 abbrev pub five-at : (tokens : List ℕ) → (index : ℕ) → Token

@@ -1,15 +1,10 @@
+use reading::call_limit_tracker::LimitKind;
 ghost use mathlib.Core.Path.{_≡_};
 ghost use mathlib.Core.Bool.{Bool, false};
 ghost use Rattle.engine.specs.declared.call_limit_tracker.LimitReached.the-variants as Reached;
-ghost use Rattle.engine.specs.Pest.{exceeded, one-more, enter};
+ghost use Rattle.reading.specs.Pest.{exceeded, one-more, enter};
 ghost use Rattle.engine.specs.Areas.{limit-of, tracker-of};
 ghost use Rattle.engine.specs.Entry.{entered-of, by-depth};
-
-// The limit that was reached (pest's `LimitKind`).
-pub enum LimitKind {
-    Call,
-    Stack,
-}
 
 // Whether a limit was reached (pest's `Option<LimitKind>`).
 pub enum LimitReached {

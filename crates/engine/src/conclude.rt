@@ -1,9 +1,7 @@
 // The end of a run: what it returns, and what then stands in its areas. Document 01, "Stops and refusals".
 use crate::attempts::Attempts;
 use crate::attempts::write_report;
-use crate::call_limit_tracker::LimitKind;
 use crate::call_limit_tracker::LimitReached;
-use crate::parser_state::Cause;
 use crate::parser_state::Ending;
 use crate::parser_state::ParserState;
 use crate::queueable_token::clear;
@@ -11,17 +9,20 @@ use crate::queueable_token::write_tokens;
 use crate::state::Outcome;
 use matching::position::BytePosition;
 use matching::position::TokenIndex;
+use reading::call_limit_tracker::LimitKind;
+use reading::parser_state::Cause;
 ghost use mathlib.Core.Path.{_≡_};
 ghost use Prim.Native.Nat.{_*_, _≤_};
 ghost use lib.ListN.{length};
-ghost use Rattle.engine.specs.Ending as Model;
+ghost use Rattle.reading.specs.Ending as Model;
 ghost use Rattle.engine.specs.Areas.{queue-of, view, view-end};
-ghost use Rattle.engine.specs.Tokens.{tokens-of};
+ghost use Rattle.reading.specs.Answer.{tokens-of};
 ghost use Rattle.engine.specs.Attempts.{tried};
 ghost use Rattle.engine.specs.Report.{Reportable};
-ghost use Rattle.engine.specs.Outcome as Answers;
-ghost use Rattle.engine.specs.Outcome.{laid, ascending};
-ghost use Rattle.engine.specs.Conclude.{pest-answer, outcome-of, Concluding, ConcludeReady};
+ghost use Rattle.reading.specs.Outcome as Answers;
+ghost use Rattle.reading.specs.Outcome.{laid, ascending};
+ghost use Rattle.reading.specs.Answer.{pest-answer};
+ghost use Rattle.engine.specs.Conclude.{outcome-of, Concluding, ConcludeReady};
 
 // "tokens, report zeroed"
 fn stopped(tokens: &mut [u32], report: &mut [u32], number: u32, place: u32) -> Outcome

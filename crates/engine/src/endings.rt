@@ -1,9 +1,7 @@
 // What each combinator of pest's parser_state.rs makes of its body's ending. A stop stays a stop.
 use crate::attempts::Noted;
 use crate::entry::limit_reached;
-use crate::parser_state::Atomicity;
 use crate::parser_state::Ending;
-use crate::parser_state::Lookahead;
 use crate::parser_state::ParserState;
 use crate::rule::close_rule;
 use crate::rule::drop_rule;
@@ -14,13 +12,15 @@ use crate::stack_state::restored;
 use crate::stack_state::stack_push_end;
 use matching::position::BytePosition;
 use matching::position::TokenIndex;
+use reading::parser_state::Atomicity;
+use reading::parser_state::Lookahead;
 ghost use mathlib.Core.Path.{_≡_};
 ghost use mathlib.Core.Bool.{true};
 ghost use mathlib.Core.List.{List};
 ghost use Prim.Native.Nat.{ℕ};
-ghost use Rattle.engine.specs.Ending as Model;
-ghost use Rattle.engine.specs.Reading.{Setting};
-ghost use Rattle.engine.specs.Pest as Pest;
+ghost use Rattle.reading.specs.Ending as Model;
+ghost use Rattle.reading.specs.Reading.{Setting};
+ghost use Rattle.reading.specs.Pest as Pest;
 ghost use Rattle.engine.specs.Areas.{view, view-end};
 ghost use Rattle.engine.specs.Ends.{EndReady, PushEndReady, RuleOkReady, RuleEndReady, atomic-back, looking};
 ghost use Rattle.engine.specs.Rule.{Tracking};

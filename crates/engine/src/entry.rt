@@ -7,7 +7,7 @@ ghost use mathlib.Core.Path.{_≡_};
 ghost use mathlib.Core.List.{List};
 ghost use Prim.Native.Nat.{ℕ};
 ghost use lib.Dec.{ltb};
-ghost use Rattle.engine.specs.Pest as Pest;
+ghost use Rattle.reading.specs.Pest as Pest;
 ghost use Rattle.engine.specs.Areas.{view};
 ghost use Rattle.engine.specs.Entry.{entering, view-entry};
 

@@ -11,8 +11,8 @@ ghost use Prim.Native.Nat.{_+_, _*_, _≤_};
 ghost use lib.Dec.{eqb};
 ghost use lib.ListN.{length};
 ghost use Rattle.matching.specs.Utf8.{is-utf8};
-ghost use Rattle.engine.specs.Grammar.{line-count, node-at, kind-at, edge, fields-fit, line-fits, first-line, misfit};
-ghost use Rattle.engine.specs.Outcome.{Input, good-text, first-of, refusal};
+ghost use Rattle.reading.specs.Grammar.{line-count, node-at, kind-at, edge, fields-fit, line-fits, first-line, misfit};
+ghost use Rattle.reading.specs.Outcome.{Input, good-text, first-of, refusal};
 ghost use Rattle.engine.specs.Refusals.{refused-of, Handed, later-tests};
 ghost use Rattle.engine.specs.Lines.{in-range, part-in, tests-of, fault-of, line-misfits};
 

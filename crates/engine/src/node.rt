@@ -4,7 +4,7 @@ ghost use mathlib.Core.Bool.{false};
 ghost use Prim.Native.Nat.{_*_, _≤_, _<_};
 ghost use lib.IntN.{pos};
 ghost use lib.ListN.{length, getD};
-ghost use Rattle.engine.specs.Grammar.{natural, row, node-at};
+ghost use Rattle.reading.specs.Grammar.{natural, row, node-at};
 ghost use Rattle.engine.specs.Lines.{line-of, ends-of, field-of};
 
 // A node whose fields are read as natural numbers.

@@ -6,8 +6,8 @@ ghost use mathlib.Core.Path.{_≡_};
 ghost use mathlib.Core.Bool.{true, false};
 ghost use Prim.Native.Nat.{_+_, _*_, _/_, _≤_, _<_};
 ghost use lib.ListN.{length, replicate};
-ghost use Rattle.engine.specs.Grammar.{node-at, first-line};
-ghost use Rattle.engine.specs.Nullable.{stands-still, flag, raised, swept, rounds, still-repeat};
+ghost use Rattle.reading.specs.Grammar.{node-at, first-line};
+ghost use Rattle.reading.specs.Nullable.{stands-still, flag, raised, swept, rounds, still-repeat};
 ghost use Rattle.engine.specs.Lines.{fault-of, flagged-repeat};
 
 // The flag of a line, numbered from 1.

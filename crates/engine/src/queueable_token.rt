@@ -6,10 +6,11 @@ ghost use mathlib.Core.Path.{_≡_};
 ghost use mathlib.Core.List.{List, []};
 ghost use Prim.Native.Nat.{ℕ, _+_, _*_, _≤_};
 ghost use lib.ListN.{length, take};
-ghost use Rattle.engine.specs.Pest.{Start, End};
+ghost use Rattle.reading.specs.Pest.{Start, End};
 ghost use Rattle.engine.specs.Areas.{queue-of};
-ghost use Rattle.engine.specs.Outcome.{filled, numbers};
-ghost use Rattle.engine.specs.Tokens.{tokens-of, put-token, Pushed, Patched, Tagged, Settled, SettledTo};
+ghost use Rattle.reading.specs.Outcome.{filled, numbers};
+ghost use Rattle.reading.specs.Answer.{tokens-of};
+ghost use Rattle.engine.specs.Tokens.{put-token, Pushed, Patched, Tagged, Settled, SettledTo};
 
 // Writes the token at index i.
 fn put(tokens: &mut [u32], i: usize, kind: u32, partner: u32, position: u32, rule: u32, tag: u32)

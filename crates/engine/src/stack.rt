@@ -13,12 +13,12 @@ use matching::span::Span;
 ghost use mathlib.Core.Path.{_≡_};
 ghost use Prim.Native.Nat.{_+_, _≤_, _<_};
 ghost use lib.ListN.{length};
-ghost use Rattle.engine.specs.Pest.{snapshot, clear-snapshot, restore};
-ghost use Rattle.engine.specs.Reading.{most-entries, most-debt};
+ghost use Rattle.reading.specs.Pest.{snapshot, clear-snapshot, restore};
+ghost use Rattle.reading.specs.Reading.{most-entries, most-debt};
 ghost use Rattle.engine.specs.Areas.{span, stack-of, scratch-size};
 ghost use Rattle.engine.specs.Pairs.{drained, refilled};
 ghost use Rattle.engine.specs.Bounded.{pushed, taken, push-of, take-of};
-ghost use Rattle.engine.specs.Sound.{StackReady, OutsideStack, most-checkpoints};
+ghost use Rattle.engine.specs.StackReady.{StackReady, OutsideStack, most-checkpoints};
 
 // pest's `Stack` in the scratch area: how many entries, popped entries and open checkpoints stand in their regions.
 pub struct Stack {

@@ -16,10 +16,10 @@ ghost use Prim.Native.Nat.{ℕ, _+_, _*_, _≤_, _<_};
 ghost use lib.ListN.{length};
 ghost use lib.Dec.{eqb, ltb};
 ghost use Rattle.matching.specs.Answers.{matched};
-ghost use Rattle.engine.specs.Ending.{if_then_else_};
-ghost use Rattle.engine.specs.Pest.{ParserState, set-stack, as-str, normalize-index, normalize-end, slice, all-match, stack-match-pop};
+ghost use Rattle.reading.specs.Ending.{if_then_else_};
+ghost use Rattle.reading.specs.Pest.{ParserState, set-stack, as-str, normalize-index, normalize-end, slice, all-match, stack-match-pop};
 ghost use Rattle.engine.specs.Areas.{stack-of};
-ghost use Rattle.engine.specs.Sound.{StackReady, OutsideStack};
+ghost use Rattle.engine.specs.StackReady.{StackReady, OutsideStack};
 ghost use Rattle.engine.specs.StackMatch.{entry-at, index-of, next-of, match-end};
 
 // The bytes of the entry at an index from the bottom, as a part of the text.

@@ -1,5 +1,4 @@
 // The combinators of pest's parser_state.rs over the state's stack: checkpoints, and document 01's kinds 14 to 17.
-use crate::parser_state::Cause;
 use crate::parser_state::Ending;
 use crate::parser_state::ParserState;
 use crate::stack::Popped;
@@ -20,16 +19,17 @@ use matching::position::BytePosition;
 use matching::position::Matched;
 use matching::position::match_string;
 use matching::span::as_bytes;
+use reading::parser_state::Cause;
 ghost use mathlib.Core.Path.{_≡_};
 ghost use mathlib.Core.Bool.{true, _||_};
 ghost use mathlib.Core.List.{List};
 ghost use mathlib.Core.Option.{none, some};
 ghost use Prim.Native.Nat.{ℕ, _<_};
 ghost use lib.Dec.{eqb, ltb};
-ghost use Rattle.engine.specs.Ending.{if_then_else_, Ok};
-ghost use Rattle.engine.specs.Pest.{checkpoint, checkpoint-ok, restored, moved, push-end, stack-pop, stack-match-peek-slice, stack-match-pop};
+ghost use Rattle.reading.specs.Ending.{if_then_else_, Ok};
+ghost use Rattle.reading.specs.Pest.{checkpoint, checkpoint-ok, restored, moved, push-end, stack-pop, stack-match-peek-slice, stack-match-pop};
 ghost use Rattle.engine.specs.Areas.{stack-of, view, view-end};
-ghost use Rattle.engine.specs.Sound.{StackReady, StateReady, PushReady, OutsideStack, most-checkpoints};
+ghost use Rattle.engine.specs.StackReady.{StackReady, StateReady, PushReady, OutsideStack, most-checkpoints};
 ghost use Rattle.engine.specs.StackMatch.{match-of};
 
 pub(crate) fn checkpoint(scratch: &mut [u32], s: ParserState) -> ParserState

@@ -6,22 +6,22 @@ use crate::conclude::conclude;
 use crate::evaluation::node;
 use crate::grammar::Refused;
 use crate::grammar::refusal;
-use crate::parser_state::Atomicity;
-use crate::parser_state::Lookahead;
 use crate::parser_state::ParserState;
 use crate::stack::Stack;
 use matching::position::BytePosition;
 use matching::position::TokenIndex;
+use reading::parser_state::Atomicity;
+use reading::parser_state::Lookahead;
 ghost use mathlib.Core.Path.{_≡_};
 ghost use mathlib.Core.List.{List};
 ghost use mathlib.Core.Option.{none};
 ghost use Prim.Native.Nat.{ℕ};
 ghost use lib.ListN.{length};
-ghost use Rattle.engine.specs.Pest as Pest;
+ghost use Rattle.reading.specs.Pest as Pest;
 ghost use Rattle.engine.specs.Areas.{view};
-ghost use Rattle.engine.specs.Outcome.{refusal, capacity};
+ghost use Rattle.reading.specs.Outcome.{refusal, capacity};
 ghost use Rattle.engine.specs.Conclude.{outcome-of};
-ghost use Rattle.engine.specs.Run.{input, Ran};
+ghost use Rattle.reading.specs.Run.{input, Ran};
 
 // What a run and a sheet reading return: document 01, "Each returns number, place, count".
 pub struct Outcome {

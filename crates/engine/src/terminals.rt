@@ -11,8 +11,8 @@ ghost use mathlib.Core.List.{List};
 ghost use Prim.Native.Nat.{ℕ, _+_, _≤_};
 ghost use lib.ListN.{length, take, drop};
 ghost use Rattle.matching.specs.Position as Position;
-ghost use Rattle.engine.specs.Ending.{if_then_else_, Ok, Err};
-ghost use Rattle.engine.specs.Pest as Pest;
+ghost use Rattle.reading.specs.Ending.{if_then_else_, Ok, Err};
+ghost use Rattle.reading.specs.Pest as Pest;
 ghost use Rattle.engine.specs.Areas.{view, view-end};
 
 // Kinds 1 and 2: `size` bytes from `offset` on of the literal text.

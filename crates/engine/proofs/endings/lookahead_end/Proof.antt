@@ -1,7 +1,7 @@
 -- In each arm the ending is known; both restore, and ask for opposite answers.
 use mathlib.Core.Path.{ap, subst, _∙_}
 use mathlib.Core.Bool.{not}
-use Rattle.engine.specs.Pest.{restored}
+use Rattle.reading.specs.Pest.{restored}
 use Rattle.engine.specs.Areas.{view}
 use Rattle.engine.specs.Ends.{EndReady, looking}
 use Rattle.engine.proofs.EndLaws.{back-to, back-ready, looking-not}

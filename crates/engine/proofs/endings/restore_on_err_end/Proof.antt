@@ -1,6 +1,6 @@
 -- In each arm the ending is known, and its state goes on as the checkpoint's end says.
 use mathlib.Core.Path.{ap, subst}
-use Rattle.engine.specs.Ending.{Ok, Err}
+use Rattle.reading.specs.Ending.{Ok, Err}
 use Rattle.engine.specs.Ends.{EndReady}
 use borrow.Author.Needs.{needs}
 use Rattle.engine.proofs.endings.restore_on_err_end.Statement.{statement}

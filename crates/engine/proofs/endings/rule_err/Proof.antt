@@ -1,7 +1,7 @@
 -- Tracking ends Ok, and the state that it left loses the rule's tokens; or it does not, and that is the end.
 use mathlib.Core.Path.{refl, ap}
 use mathlib.Core.Bool.{not}
-use Rattle.engine.specs.Ending.{Err}
+use Rattle.reading.specs.Ending.{Err}
 use Rattle.engine.specs.Areas.{view}
 use Rattle.engine.proofs.RuleEnds.{after-err}
 use borrow.Author.Needs.{needs}

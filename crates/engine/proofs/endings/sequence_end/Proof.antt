@@ -1,7 +1,7 @@
 -- In each arm the ending is known; the queue cut to an index is the area's first tokens.
 use mathlib.Core.Path.{ap, subst, _∙_}
-use Rattle.engine.specs.Ending.{Ok, Err}
-use Rattle.engine.specs.Pest.{restored}
+use Rattle.reading.specs.Ending.{Ok, Err}
+use Rattle.reading.specs.Pest.{restored}
 use Rattle.engine.specs.Ends.{EndReady}
 use Rattle.engine.proofs.EndLaws.{cut-view, cut-ready}
 use borrow.Author.Needs.{needs}

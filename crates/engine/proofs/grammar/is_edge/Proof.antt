@@ -1,6 +1,6 @@
 -- Past the end there is no edge, the end is one, and else the byte decides.
 use native.Mathlib.Omega.{arith}
-use Rattle.engine.proofs.EdgeLaws.{edge-out, edge-end, edge-at}
+use Rattle.reading.proofs.EdgeLaws.{edge-out, edge-end, edge-at}
 use borrow.Author.Needs.{needs}
 use Rattle.engine.proofs.grammar.is_edge.Statement.{statement}
 use Rattle.engine.proofs.grammar.is_edge.Tie as tie

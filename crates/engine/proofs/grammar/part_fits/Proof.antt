@@ -1,7 +1,7 @@
 -- The part's start is no edge, the part is too long, or its end decides.
 use borrow.Author.Tests.{not-true, not-false}
 use mathlib.Core.Path.{sym, _∙_}
-use Rattle.engine.proofs.EdgeLaws.{part-no, part-short, part-is, edge-inside}
+use Rattle.reading.proofs.EdgeLaws.{part-no, part-short, part-is, edge-inside}
 use borrow.Author.Needs.{needs}
 use Rattle.engine.proofs.grammar.part_fits.Statement.{statement}
 use Rattle.engine.proofs.grammar.part_fits.Tie as tie

@@ -4,8 +4,8 @@ use mathlib.Core.Path.{_≡_, refl, ap, _∙_}
 use Prim.Native.Nat.{_-_, _≤_}
 use native.Mathlib.Omega.{arith}
 use lib.ListN.{length}
-use Rattle.engine.specs.Nullable.{rounds}
-use Rattle.engine.proofs.NullableLaws.{rounds-zero, rounds-next, ended, swept-all}
+use Rattle.reading.specs.Nullable.{rounds}
+use Rattle.reading.proofs.NullableLaws.{rounds-zero, rounds-next, ended, swept-all}
 use Rattle.engine.proofs.nullable.flag_all.Statement.{statement}
 use Rattle.engine.proofs.nullable.flag_all.Tie as tie
 

@@ -1,5 +1,5 @@
 -- No line 0, none past the flags, and else the flag before the line's number.
-use Rattle.engine.proofs.NullableLaws.{flag-none, flag-out, flag-in}
+use Rattle.engine.proofs.NullableSteps.{flag-none, flag-out, flag-in}
 use borrow.Author.Needs.{needs}
 use Rattle.engine.proofs.nullable.flag_of.Statement.{statement}
 use Rattle.engine.proofs.nullable.flag_of.Tie as tie

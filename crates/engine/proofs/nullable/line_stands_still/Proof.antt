@@ -1,7 +1,7 @@
 -- The code builds the definition's table, row by row, over what the fields and the flags say.
-use Rattle.engine.specs.Grammar.{node-at}
-use Rattle.engine.specs.Nullable.{flag}
-use Rattle.engine.proofs.NullableLaws.{line-still}
+use Rattle.reading.specs.Grammar.{node-at}
+use Rattle.reading.specs.Nullable.{flag}
+use Rattle.engine.proofs.NullableSteps.{line-still}
 use borrow.Author.Needs.{needs}
 use Rattle.engine.proofs.nullable.line_stands_still.Statement.{statement}
 use Rattle.engine.proofs.nullable.line_stands_still.Tie as tie

@@ -1,7 +1,7 @@
 -- A flagged line stays, one that may stand still is set, any other stays: the three cases of `raised`.
 use mathlib.Core.Path.{refl, _∙_}
 use mathlib.Core.Bool.{true≢false}
-use Rattle.engine.proofs.NullableLaws.{raised-flagged, raised-yes, raised-no, still-of}
+use Rattle.reading.proofs.NullableLaws.{raised-flagged, raised-yes, raised-no, still-of}
 use borrow.Author.Needs.{needs}
 use Rattle.engine.proofs.nullable.raise.Statement.{statement}
 use Rattle.engine.proofs.nullable.raise.Tie as tie

@@ -1,5 +1,5 @@
 -- The line as read is the line of the definition.
-use Rattle.engine.proofs.NullableLaws.{repeat-read}
+use Rattle.engine.proofs.NullableSteps.{repeat-read}
 use borrow.Author.Needs.{needs}
 use Rattle.engine.proofs.nullable.repeat_stands_still.Statement.{statement}
 use Rattle.engine.proofs.nullable.repeat_stands_still.Tie as tie

@@ -1,7 +1,7 @@
 -- The first part of the flags is worked on, and is then the definition's flags.
 use native.Mathlib.Omega.{arith}
-use Rattle.engine.specs.Grammar.{line-count}
-use Rattle.engine.proofs.NullableLaws.{part-length, part-false, back-length, decided}
+use Rattle.reading.specs.Grammar.{line-count}
+use Rattle.engine.proofs.NullableSteps.{part-length, part-false, back-length, decided}
 use borrow.Author.Needs.{needs}
 use Rattle.engine.proofs.nullable.still_repeat_in.Statement.{statement}
 use Rattle.engine.proofs.nullable.still_repeat_in.Tie as tie

@@ -5,8 +5,8 @@ use mathlib.Core.Bool.{false}
 use Prim.Native.Nat.{ℕ, _-_, _≤_}
 use native.Mathlib.Omega.{arith}
 use lib.ListN.{length}
-use Rattle.engine.specs.Nullable.{swept}
-use Rattle.engine.proofs.NullableLaws.{swept-zero, swept-next}
+use Rattle.reading.specs.Nullable.{swept}
+use Rattle.reading.proofs.NullableLaws.{swept-zero, swept-next}
 use Rattle.engine.proofs.nullable.sweep.Statement.{statement}
 use Rattle.engine.proofs.nullable.sweep.Tie as tie
 

@@ -1,5 +1,5 @@
 -- A push is one law.
-use Rattle.engine.specs.Pest.{End}
+use Rattle.reading.specs.Pest.{End}
 use Rattle.engine.proofs.TokenLaws.{pushed}
 use borrow.Author.Needs.{needs}
 use Rattle.engine.proofs.queueable_token.push_end.Statement.{statement}

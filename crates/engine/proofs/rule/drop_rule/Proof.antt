@@ -4,7 +4,7 @@ use mathlib.Core.Bool.{true, false}
 use mathlib.Core.List.{List}
 use Prim.Native.Nat.{ℕ}
 use Rattle.engine.specs.declared.parser_state.ParserState.{ParserState}
-use Rattle.engine.specs.Pest.{produces}
+use Rattle.reading.specs.Pest.{produces}
 use Rattle.engine.specs.Areas.{view, queue-of}
 use Rattle.engine.proofs.TokenLaws.{queue-take, queue-length}
 use Rattle.engine.proofs.RuleLaws.{drop-some, drop-none, drop-off}

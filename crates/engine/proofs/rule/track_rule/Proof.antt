@@ -4,8 +4,8 @@ use mathlib.Core.List.{List}
 use Prim.Native.Nat.{ℕ}
 use Rattle.engine.specs.declared.parser_state.ParserState.{ParserState}
 use Rattle.engine.specs.declared.attempts.Noted.{Noted}
-use Rattle.engine.specs.Ending.{Ok}
-use Rattle.engine.specs.Pest as Pest
+use Rattle.reading.specs.Ending.{Ok}
+use Rattle.reading.specs.Pest as Pest
 use Rattle.engine.specs.Areas.{view}
 use Rattle.engine.specs.Attempts.{view-tracked}
 use Rattle.engine.proofs.Regions.{outside-refl}

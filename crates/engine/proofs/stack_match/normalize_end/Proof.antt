@@ -3,7 +3,7 @@ use mathlib.Core.Path.{ap, _∙_}
 use lib.IntN.{ℤ}
 use borrow.Author.Needs.{needs}
 use Rattle.engine.specs.StackMatch.{index-of}
-use Rattle.engine.specs.Pest.{normalize-index}
+use Rattle.reading.specs.Pest.{normalize-index}
 use Rattle.engine.proofs.stack_match.normalize_end.Tie as tie
 use Rattle.engine.proofs.IndexLaws.{back, end-given, end-none}
 use Rattle.engine.proofs.stack_match.normalize_end.Statement.{statement}

@@ -3,7 +3,7 @@ use mathlib.Core.Path.{ap, _∙_}
 use lib.IntN.{ℤ}
 use borrow.Author.Needs.{needs}
 use Rattle.engine.specs.StackMatch.{index-of}
-use Rattle.engine.specs.Pest.{normalize-index, normalize-end}
+use Rattle.reading.specs.Pest.{normalize-index, normalize-end}
 use Rattle.engine.proofs.stack_state.stack_match_peek_slice.Tie as tie
 use Rattle.engine.proofs.StateSteps.{end-of, start-out, end-out, end-below, slice-empty, slice-moved}
 use Rattle.engine.proofs.IndexLaws.{back}

@@ -2,10 +2,10 @@
 use mathlib.Core.Path.{_≡_, refl, ap}
 use mathlib.Core.Option.{Option, none}
 use mathlib.Core.List.{[]}
-use Rattle.engine.specs.declared.parser_state.Lookahead.the-variants.{None}
-use Rattle.engine.specs.declared.parser_state.Atomicity.the-variants.{NonAtomic}
+use Rattle.reading.specs.declared.parser_state.Lookahead.the-variants.{None}
+use Rattle.reading.specs.declared.parser_state.Atomicity.the-variants.{NonAtomic}
 use Rattle.engine.specs.Areas.{numbers, pairs, queue-of}
-use Rattle.engine.specs.Pest.{ParserState, CallLimit}
+use Rattle.reading.specs.Pest.{ParserState, CallLimit}
 use Rattle.engine.proofs.RunLaws.{limit-is}
 use Rattle.engine.proofs.state.new.Statement.{statement}
 use Rattle.engine.proofs.state.new.Tie as tie

@@ -1,10 +1,10 @@
 -- A refused run, or a started one.
 use mathlib.Core.Path.{_≡_, refl, sym, _∙_}
 use lib.ListN.{length}
-use Rattle.engine.specs.Outcome.{Input}
+use Rattle.reading.specs.Outcome.{Input}
 use Rattle.engine.specs.Refusals.{Handed}
-use Rattle.engine.specs.Run.{input}
-use Rattle.engine.proofs.Accepted.{not-refused}
+use Rattle.reading.specs.Run.{input}
+use Rattle.engine.proofs.RefusalLaws.{not-refused}
 use Rattle.engine.proofs.RunLaws.{refused-is}
 use borrow.Author.Needs.{needs}
 use Rattle.engine.proofs.state.run.Statement.{statement}

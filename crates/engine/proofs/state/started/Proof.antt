@@ -1,8 +1,8 @@
 -- The evaluation of the root from the first state, and its end.
 use mathlib.Core.Path.{_≡_, refl, sym}
 use lib.ListN.{length}
-use Rattle.engine.specs.Outcome.{Input}
-use Rattle.engine.specs.Run.{input}
+use Rattle.reading.specs.Outcome.{Input}
+use Rattle.reading.specs.Run.{input}
 use Rattle.engine.proofs.RunLaws.{ready, at-last, ran-is, concludable, run-is}
 use borrow.Author.Needs.{needs}
 use Rattle.engine.proofs.state.started.Statement.{statement}

@@ -15,7 +15,7 @@ use Rattle.engine.proofs.Steps.{tests, told}
 use Rattle.engine.proofs.LineSteps.{whole}
 use Rattle.engine.proofs.Climbs.{told-ok, told-err, goes-yes, goes-no}
 use Rattle.engine.proofs.Walks.{Walking, first-walk, Climbing, slopes, low-line, top-last, forks-below, line-whole, low-stop, first-climb, go-ready, climb-in, climb-line, climb-go, climb-stop, climb-stay, top-in, top-stay, top-go}
-use Rattle.engine.specs.Grammar.{tree-at}
+use Rattle.reading.specs.Grammar.{tree-at}
 
 abbrev Inv-loop2 : node-lts.InvT-loop2
 Inv-loop2 nodes literals text tokens₀ scratch₀ capacity depth line at now₀ count good₀ i₀ tokens scratch now good i =

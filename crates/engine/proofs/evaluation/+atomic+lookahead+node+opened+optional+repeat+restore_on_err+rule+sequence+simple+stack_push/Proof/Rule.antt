@@ -13,7 +13,7 @@ use Rattle.engine.specs.Areas.{view}
 use Rattle.engine.specs.Entry.{opened, entering}
 use Rattle.engine.specs.Evaluation.{setting-of, Ready}
 use Rattle.engine.proofs.Steps.{told-entry, deep, down, tests, ready-open, told, few-of, recording-of, begun, body-rule, place-of, rule-refused, rule-err, rule-stop, rule-step}
-use Rattle.engine.specs.Ending.{Ok}
+use Rattle.reading.specs.Ending.{Ok}
 use Rattle.engine.specs.Rule.{starting}
 use Rattle.engine.proofs.TokenLaws.{queue-length}
 

@@ -1,0 +1,14 @@
+pub mod Ending
+pub mod Grammar
+pub mod Nullable
+pub mod Forest
+pub mod Reading
+pub mod Outcome
+pub mod Pest
+pub mod Ford
+pub mod Cases
+pub mod Sound
+pub mod Fit
+pub mod Answer
+pub mod Run
+pub mod Demand3

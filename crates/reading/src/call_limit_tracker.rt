@@ -1,0 +1,5 @@
+// The limit that was reached (pest's `LimitKind`).
+pub enum LimitKind {
+    Call,
+    Stack,
+}
