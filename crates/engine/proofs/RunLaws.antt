@@ -32,7 +32,7 @@ use Rattle.reading.proofs.Agree.{initial-is, initial-fit}
 use Rattle.reading.proofs.Accepted as Accepted
 use Rattle.reading.proofs.Accepted.{Started, rule-still}
 use Rattle.reading.proofs.Runs.{tested, root-literals, root-steady, run-alike}
-use Rattle.reading.proofs.Demand3.{outcome-is}
+use Rattle.reading.proofs.Runs.{outcome-is}
 
 -- A call limit of 0 is none.
 pub limit-is : (l : ℕ) → limit-of 0 l ≡ Pest.new l .call-tracker .current-call-limit

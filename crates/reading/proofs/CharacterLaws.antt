@@ -13,6 +13,7 @@ use Rattle.matching.specs.Utf8.{Range, range, tail, utf8-char, within, fits, va
 use Rattle.matching.specs.Position.{starts-by, fold-case, same-folded}
 use Rattle.matching.proofs.Lead.{and-left, and-right, within-true, decode-nil}
 use Rattle.matching.proofs.Characters.{characters-nil, characters-next, is-utf8-iff}
+use Rattle.reading.specs.Ford.{or-nil, characters-of}
 
 -- ── The forms of a character: its size and value ──
 pub data Form : List ℕ → ℕ → ℕ → Type 0 where
@@ -253,15 +254,6 @@ module _ (same : ℕ → ℕ → Bool) (h : Ascii same) where
 
   pub compared : (l x : List ℕ) (c d : Character) → decode l ≡ some c → decode x ≡ some d → Compared same l x (c .size) (d .size) (c .value) (d .value)
   compared l x c d e f = compare l x (c .size) (d .size) (c .value) (d .value) (form-of l c e) (form-of x d f)
-
--- ── The characters of a text ──
-abbrev or-nil : Option (List ℕ) → List ℕ
-or-nil none = []
-or-nil (some vs) = vs
-
--- None of a text that is not UTF-8.
-abbrev pub characters-of : List ℕ → List ℕ
-characters-of x = or-nil (characters x)
 
 given : (o : Option (List ℕ)) → is-some o ≡ true → o ≡ some (or-nil o)
 given none e = no-byte e

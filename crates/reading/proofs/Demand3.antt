@@ -15,10 +15,11 @@ use Rattle.reading.specs.Forest.{Forest, tokens}
 use Rattle.reading.specs.Reading.{State, Attempts}
 use Rattle.reading.specs.Outcome.{Input, refusal, reading, Answer, answer, of-limit, of-tokens, of-failure, ascending, report-of, numbers, filled, Outcome, Refusal, refused, started, outcome}
 use Rattle.reading.specs.Run.{Ran}
+use Rattle.reading.specs.Demand1.{Within, bounded-ok, bounded-err, bounded-stop}
 use Rattle.reading.specs.Demand3.{Parses, parses, Fails, fails, SameSet, token-list, error-report, Each, Demand3}
 use Rattle.reading.proofs.Exact.{tokens-area-exact, report-exact, Few}
 use Rattle.reading.proofs.Accepted as Accepted
-use Rattle.reading.proofs.Runs.{run-bounded, BoundedEnd, bounded-ok, bounded-err, bounded-stop}
+use Rattle.reading.proofs.Runs.{run-bounded, outcome-is}
 
 -- ── An ending and its number ──
 data Numbered (r : Ending State) : ℕ → Type 0 where
@@ -55,16 +56,12 @@ answer-failed r a (fails s e) = rw e
 
 -- ── One started run ──
 module _ (i : Input) (e : refusal i ≡ none) where
-  pub outcome-is : outcome i ≡ started i (answer (reading i))
-  unfolding outcome
-  outcome-is = ap (λ (r : Option Refusal). elim r as (λ _. Outcome) [ some x ↦ refused i x | none ↦ started i (answer (reading i)) ]) e
-
   -- "Each gives 0 exactly when document 01's reading, stops included, comes to 0, and 10 exactly when it comes to 10"
   pub zero-exactly : (outcome i .number ≡ 0) ↔ ((f : Forest) × Parses (reading i) f)
   zero-exactly = (to, from)
     where
       to : outcome i .number ≡ 0 → (f : Forest) × Parses (reading i) f
-      to q = go _ (numbered (reading i)) (sym (ap (λ (o : Outcome). o .number) outcome-is) ∙ q)
+      to q = go _ (numbered (reading i)) (sym (ap (λ (o : Outcome). o .number) (outcome-is i e)) ∙ q)
         where
           go : (n : ℕ) → Numbered (reading i) n → n ≡ 0 → (f : Forest) × Parses (reading i) f
           go n (is-0 f p) z = (f, p)
@@ -72,13 +69,13 @@ module _ (i : Input) (e : refusal i ≡ none) where
           go n (is-other m h) z = absurd (omega arith)
 
       from : (f : Forest) × Parses (reading i) f → outcome i .number ≡ 0
-      from w = ap (λ (o : Outcome). o .number) outcome-is ∙ ap (λ (a : Answer). a .number) (answer-parsed (reading i) (w .0) (w .1))
+      from w = ap (λ (o : Outcome). o .number) (outcome-is i e) ∙ ap (λ (a : Answer). a .number) (answer-parsed (reading i) (w .0) (w .1))
 
   pub ten-exactly : (outcome i .number ≡ 10) ↔ ((a : Attempts) × Fails (reading i) a)
   ten-exactly = (to, from)
     where
       to : outcome i .number ≡ 10 → (a : Attempts) × Fails (reading i) a
-      to q = go _ (numbered (reading i)) (sym (ap (λ (o : Outcome). o .number) outcome-is) ∙ q)
+      to q = go _ (numbered (reading i)) (sym (ap (λ (o : Outcome). o .number) (outcome-is i e)) ∙ q)
         where
           go : (n : ℕ) → Numbered (reading i) n → n ≡ 10 → (a : Attempts) × Fails (reading i) a
           go n (is-0 f p) z = absurd (omega arith)
@@ -86,23 +83,23 @@ module _ (i : Input) (e : refusal i ≡ none) where
           go n (is-other m h) z = absurd (omega arith)
 
       from : (a : Attempts) × Fails (reading i) a → outcome i .number ≡ 10
-      from w = ap (λ (o : Outcome). o .number) outcome-is ∙ ap (λ (a : Answer). a .number) (answer-failed (reading i) (w .0) (w .1))
+      from w = ap (λ (o : Outcome). o .number) (outcome-is i e) ∙ ap (λ (a : Answer). a .number) (answer-failed (reading i) (w .0) (w .1))
 
   -- "with that reading's tokens or report as laid out there"
   pub tokens-laid : (f : Forest) → Parses (reading i) f → outcome i .tokens ≡ filled (length (i .tokens)) (numbers (tokens f))
-  tokens-laid f p = ap (λ (o : Outcome). o .tokens) outcome-is ∙ ap (λ (a : Answer). filled (length (i .tokens)) (numbers (a .tokens))) (answer-parsed (reading i) f p)
+  tokens-laid f p = ap (λ (o : Outcome). o .tokens) (outcome-is i e) ∙ ap (λ (a : Answer). filled (length (i .tokens)) (numbers (a .tokens))) (answer-parsed (reading i) f p)
 
   pub count-laid : (f : Forest) → Parses (reading i) f → outcome i .count ≡ length (tokens f)
-  count-laid f p = ap (λ (o : Outcome). o .count) outcome-is ∙ ap (λ (a : Answer). a .count) (answer-parsed (reading i) f p)
+  count-laid f p = ap (λ (o : Outcome). o .count) (outcome-is i e) ∙ ap (λ (a : Answer). a .count) (answer-parsed (reading i) f p)
 
   pub report-laid : (a : Attempts) → Fails (reading i) a
       → outcome i .report ≡ filled (length (i .report)) (report-of (a .furthest) (ascending (a .positive)) (ascending (a .negative)))
-  report-laid a p = ap (λ (o : Outcome). o .report) outcome-is ∙ ap (λ (x : Answer). filled (length (i .report)) (x .report)) (answer-failed (reading i) a p)
+  report-laid a p = ap (λ (o : Outcome). o .report) (outcome-is i e) ∙ ap (λ (x : Answer). filled (length (i .report)) (x .report)) (answer-failed (reading i) a p)
 
   few : (a : Attempts) → Fails (reading i) a → Few (a .positive) (a .negative)
   few a p = go (reading i) a p (run-bounded i e)
     where
-      go : (r : Ending State) (a : Attempts) → Fails r a → BoundedEnd i e r → Few (a .positive) (a .negative)
+      go : (r : Ending State) (a : Attempts) → Fails r a → Within i r → Few (a .positive) (a .negative)
       go r a (fails s q) (bounded-err t b) = record { positives = b .positives; negatives = b .negatives }
 
   report-room : 515 ≤ length (i .report)

@@ -17,4 +17,6 @@ pub mod CharacterLaws
 pub mod Recognition
 pub mod Accepted
 pub mod Runs
+pub mod Demand1
+pub mod Demand2
 pub mod Demand3

@@ -33,11 +33,11 @@ use Rattle.reading.specs.Outcome.{Answer, answer, of-limit, of-tokens, o
 use Rattle.reading.specs.Pest as Pest
 use Rattle.reading.specs.Pest.{ParserState, QueueableToken, CallLimitTracker, Entered, level, eval}
 use Rattle.reading.specs.Ford as Ford
-use Rattle.reading.specs.Ford.{Peg, Ford, peg, each, each-of, any, times}
+use Rattle.reading.specs.Ford.{Peg, Ford, peg, each, each-of, any, times, rules-of, characters-of}
 use Rattle.reading.proofs.Trees.{Literals, still, Steady}
 use Rattle.reading.proofs.FordLaws.{ford-unique, ford-suffix, star-left}
 use Rattle.reading.proofs.Trees.{Calls, whole, Plain}
-use Rattle.reading.proofs.CharacterLaws.{Ascii, eqb-ascii, folded-ascii, Compared, alike, unlike, compared, characters-of, all-characters, of-nil, of-next, Begins, no-character, a-character, begins}
+use Rattle.reading.proofs.CharacterLaws.{Ascii, eqb-ascii, folded-ascii, Compared, alike, unlike, compared, all-characters, of-nil, of-next, Begins, no-character, a-character, begins}
 use Rattle.reading.proofs.Matchers.{string-same, folded-same, range-same, skip-same}
 use Rattle.reading.specs.Fit.{Fit}
 use Rattle.reading.proofs.Invariant.{keeps-ok, keeps-err, KeepsFrom, Keeping, Tested, checkpoint-fit, pushed-fit, level-keeps, eval-keeps, refused-keeps}
@@ -137,9 +137,6 @@ module _ (text : List ℕ) (rules : ℕ → Peg) where
       go (a-character c d u q) false k = Ford.f-not-fail any (at p) (characters-of (drop (c .size) (drop p text))) (rw q (Ford.f-terminal (λ v. true) (c .value) _ refl))
 
 -- ── Endings ──
-abbrev pub rules-of : Setting → ℕ → Peg
-rules-of g l = peg (g .rule-at l .body)
-
 abbrev cause : ParserState → Option LimitKind
 cause m = m .call-tracker .limit-reached
 

@@ -17,9 +17,10 @@ use Rattle.reading.specs.Reading as Reading
 use Rattle.reading.specs.Reading.{Setting, State, initial, most-entries, most-debt, most-attempts, debt, held}
 use Rattle.reading.specs.Pest as Pest
 use Rattle.reading.specs.Pest.{ParserState}
-use Rattle.reading.specs.Outcome.{Input, refusal, setting, reading, answer}
+use Rattle.reading.specs.Outcome.{Input, Refusal, refusal, setting, reading, answer, refused, started as laid-out, Outcome, outcome}
 use Rattle.reading.specs.Answer.{pest-answer, answer-to}
-use Rattle.reading.specs.Ford.{Ford, peg}
+use Rattle.reading.specs.Ford.{Ford, peg, rules-of, characters-of}
+use Rattle.reading.specs.Demand1.{Bounded, Within, bounded-ok, bounded-err, bounded-stop}
 use Rattle.reading.specs.Sound.{Fits, fits-none, fits-one}
 use Rattle.reading.specs.Fit.{Fit}
 use Rattle.reading.proofs.Trees.{Literals, Steady}
@@ -27,8 +28,7 @@ use Rattle.reading.proofs.QueueLaws.{top}
 use Rattle.reading.proofs.Invariant.{Tested, Keeps, keeps-ok, keeps-err, keeps-stop, KeepsFrom, eval-keeps}
 use Rattle.reading.proofs.Simulation.{Sim, sim-ok, sim-err, sim-stop, pest-of, held-is}
 use Rattle.reading.proofs.Agree.{initial-fit, initial-is, run-sim, alike, agree-at, Runs}
-use Rattle.reading.proofs.CharacterLaws.{characters-of}
-use Rattle.reading.proofs.Recognition.{PlainRules, rules-of, Recognised, ford-at, ford-parsed, ford-failed}
+use Rattle.reading.proofs.Recognition.{PlainRules, Recognised, ford-at, ford-parsed, ford-failed}
 use Rattle.reading.proofs.Accepted.{Accepted, RuleLine, Started, started, rule-still, rule-still-is, tree-literals, body-literals, tree-calls, body-calls, tree-steady, body-steady, body-closed, tree-plain, body-plain, body-whole}
 
 pub tested : (i : Input) → Accepted (i .nodes) (i .literals) → Tested (setting i) (rule-still (i .nodes))
@@ -54,6 +54,10 @@ module _ (i : Input) (e : refusal i ≡ none) where
   pub root-steady : Steady (rule-still (i .nodes)) at-root
   root-steady = tree-steady (i .nodes) (i .literals) g (rule-still (i .nodes)) (rule-still-is (i .nodes)) (line-count (i .nodes))
 
+  pub outcome-is : outcome i ≡ laid-out i (answer (reading i))
+  unfolding outcome
+  outcome-is = ap (λ (r : Option Refusal). elim r as (λ _. Outcome) [ some x ↦ refused i x | none ↦ laid-out i (answer (reading i)) ]) e
+
   -- ── Demand 2: `state` ──
   -- A run that stops for no added reason answers what pest's `state` gives: number, tokens, furthest, sorted rules.
   pub agree : Runs (reading i) → answer (reading i) ≡ answer-to (Pest.state (setting i) (i .depth-limit) (i .call-limit) at-root)
@@ -66,26 +70,11 @@ module _ (i : Input) (e : refusal i ≡ none) where
   run-alike = alike (setting i) (rule-still (i .nodes)) (tested i g) (s .text-whole) (i .depth-limit) (i .call-limit) at-root root-literals root-steady
 
   -- ── Demand 1: bounds ──
-  -- At its end a run stands at a character edge of the text, and no list has passed its bound: nothing was cut silently.
-  pub record Bounded (t : State) : Type 0 where
-    pub edge : Edge (i .text) (t .position)
-    pub entries : length (t .stack) ≤ most-entries
-    pub owed : debt (t .checkpoints) ≤ most-debt
-    pub tokens : held t ≤ setting i .capacity
-    pub inside : t .attempts .furthest ≤ length (i .text)
-    pub positives : length (t .attempts .positive) ≤ most-attempts
-    pub negatives : length (t .attempts .negative) ≤ most-attempts
-
-  pub data BoundedEnd : Ending State → Type 0 where
-    bounded-ok : (t : State) → Bounded t → BoundedEnd (Ok t)
-    bounded-err : (t : State) → Bounded t → BoundedEnd (Err t)
-    bounded-stop : (c : Cause) → BoundedEnd (Stop c)
-
   tall : {h : ℕ} {ks : List Checkpoint} → Fits h ks → h ≤ most-entries
   tall (fits-none l) = l
   tall (fits-one l a b f) = l
 
-  bounded-of : (t : State) (p : List Span) → t .outer ≡ 0 → Fit (setting i) (pest-of top p t) → Bounded t
+  bounded-of : (t : State) (p : List Span) → t .outer ≡ 0 → Fit (setting i) (pest-of top p t) → Bounded i t
   bounded-of t p o f = record {
     edge = f .edge;
     entries = tall (f .sound .fits);
@@ -96,13 +85,13 @@ module _ (i : Input) (e : refusal i ≡ none) where
     negatives = f .negatives;
   }
 
-  pub run-bounded : BoundedEnd (reading i)
+  pub run-bounded : Within i (reading i)
   unfolding reading
   run-bounded =
       go _ _ (run-sim (setting i) (rule-still (i .nodes)) (tested i g) (s .text-whole) (i .depth-limit) (i .call-limit) at-root root-literals root-steady)
       (eval-keeps (setting i) (rule-still (i .nodes)) (tested i g) (i .depth-limit) at-root root-literals root-steady (Pest.new (i .call-limit)) (initial-fit (setting i) (i .call-limit) (s .text-whole)))
     where
-      go : (r : Ending State) (m : Ending ParserState) {b : Bool} {q : ℕ} {l l′ : Lookahead} {a a′ : Atomicity} {f : Forest} {marks n : ℕ} → Sim top [] l′ a′ f r m → Keeps (setting i) b q l a marks n m → BoundedEnd r
+      go : (r : Ending State) (m : Ending ParserState) {b : Bool} {q : ℕ} {l l′ : Lookahead} {a a′ : Atomicity} {f : Forest} {marks n : ℕ} → Sim top [] l′ a′ f r m → Keeps (setting i) b q l a marks n m → Within i r
       go r m (sim-ok t p j k) (keeps-ok n w x) = bounded-ok t (bounded-of t p (j .base) (w .fit))
       go r m (sim-err t p j k) (keeps-err n w) = bounded-err t (bounded-of t p (j .base) (w .fit))
       go r m (sim-stop c) w = bounded-stop c

@@ -8,6 +8,7 @@ use Prim.Native.Nat.{ℕ, zero, suc}
 use lib.Dec.{eqb}
 use Rattle.matching.specs.Utf8.{within, characters}
 use Rattle.matching.specs.Position.{same-folded}
+use Rattle.reading.specs.Reading.{Setting}
 use Rattle.reading.specs.Grammar.{Exp, match-string, match-insensitive, match-range, skip, end-of-input, and-then, or-else, rule, sequence, repeat, optional, lookahead, atomic, stack-push, stack-pop, stack-match-peek-slice, stack-match-pop, restore-on-err, tag-node, call}
 
 infixr 30 _then_
@@ -90,3 +91,15 @@ peg (stack-pop l) = ε
 peg (stack-match-peek-slice i j d) = ε
 peg (stack-match-pop l) = ε
 peg (restore-on-err e) = ε
+
+-- The rules of a grammar, by their lines.
+abbrev pub rules-of : Setting → ℕ → Peg
+rules-of g l = peg (g .rule-at l .body)
+
+abbrev pub or-nil : Option (List ℕ) → List ℕ
+or-nil none = []
+or-nil (some vs) = vs
+
+-- The characters of a text; none of a text that is not UTF-8.
+abbrev pub characters-of : List ℕ → List ℕ
+characters-of x = or-nil (characters x)

@@ -11,4 +11,6 @@ pub mod Sound
 pub mod Fit
 pub mod Answer
 pub mod Run
+pub mod Demand1
+pub mod Demand2
 pub mod Demand3
