@@ -76,9 +76,6 @@ module _ (ns : List ℤ) (literals : List ℕ) (w : Accepted ns literals) where
     pub kind-of : (k : ℕ) → K k → kind-at ns l ≡ k
     kind-of k q = sym (ap (λ (x : Read.Line). x .kind) e) ∙ q
 
-    pub kind-not : (k : ℕ) → (K k → ⊥) → kind-at ns l ≡ k → ⊥
-    kind-not k f q = f (ap (λ (x : Read.Line). x .kind) e ∙ q)
-
     fits : Fits ns literals l
     fits = facts ns literals w l (i .low) (i .high)
 

@@ -23,7 +23,7 @@ use Rattle.reading.specs.Pest as Pest
 use Rattle.reading.specs.Pest.{ParserState, QueueableToken, Start, End, produces, with-end, set-queue, push-token, tracking, close-rule, tag-last, tag-node}
 use Rattle.engine.specs.Areas.{Outside, view, queue-of, stack-of, span, checkpoint, positives-at, lengths-at, entries-at, popped-at}
 use Rattle.engine.specs.Attempts.{Tried, tried, tried-of, with-tried, noted, tracked, Track, kept, full, within}
-use Rattle.engine.specs.Tokens.{Written, Patched, Paired, Pushed}
+use Rattle.engine.specs.Tokens.{Patched, Paired, Pushed}
 use Rattle.engine.specs.Rule.{starting, dropped}
 use Rattle.engine.proofs.Regions.{outside-refl, outside-trans, outside-wider, same-below, same-above, pairs-same}
 use Rattle.engine.proofs.TokenLaws.{queue-length, queue-take}
@@ -101,10 +101,10 @@ module _ (a : List ℕ) (n capacity c : ℕ) (e : c ≡ capacity) where
 -- ── the partner of a Start among n tokens ──
 module _ (a b : List ℕ) (i n : ℕ) where
   pub paired-in : i < n → Patched a i n b → Paired a i n b
-  paired-in l p = record { queue = p .queue n; written = p .written n; others = outside-wider (omega arith) (omega arith) (p .others) }
+  paired-in l p = record { queue = p .queue n; others = outside-wider (omega arith) (omega arith) (p .others) }
 
   pub paired-out : n ≤ i → Paired a i n a
-  paired-out l = record { queue = sym (set-out (queue-of a n) i _ (omega (arith, queue-length a n))); written = λ w. w; others = outside-refl a }
+  paired-out l = record { queue = sym (set-out (queue-of a n) i _ (omega (arith, queue-length a n))); others = outside-refl a }
 
 pub paired-queue : (a b : List ℕ) (i n : ℕ) → Paired a i n b → queue-of b n ≡ partnered i (queue-of a n)
 paired-queue a b i n p = p .queue ∙ ap (λ (k : ℕ). set (queue-of a n) i (with-end k (getD (queue-of a n) i (Start 0 0)))) (sym (queue-length a n))

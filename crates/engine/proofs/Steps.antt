@@ -347,9 +347,6 @@ module _ (ns : List ℤ) (literals text : List ℕ) (capacity : ℕ) where
       let w : Begins n (Ok u) = subst (Begins n) (sym e) (begins line n (r .fit)) in
       ready-on r s refl (w .0) (omega (arith, w .1, r .deep))
 
-  pub begun-grown : {tokens scratch : List ℕ} {d : ℕ} {n : ParserState} → R tokens scratch d n → (line : ℕ) (u : ParserState) → Ok u ≡ starting g line n → length (n .queue) ≤ length (u .queue)
-  begun-grown {n = n} r line u e = let w : Begins n (Ok u) = subst (Begins n) (sym e) (begins line n (r .fit)) in w .2
-
   pub recording-of : (tokens scratch : List ℕ) (d : ℕ) (s : Code.ParserState) → R tokens scratch d (view tokens scratch s) → Recording tokens capacity s
   recording-of tokens scratch d s r = record { room = r .area; most = r .small; near = omega (arith, r .fit .edge .inside, r .short) }
 

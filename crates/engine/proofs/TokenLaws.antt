@@ -114,21 +114,9 @@ module _ (a b : List ℕ) (j : ℕ) (o : Outside (j * 5) (j * 5 + 5) a b) where
       go (no f) (yes g) = other (five-other i f (λ x. omega arith))
       go (no f) (no g) = let e : i ≡ j = omega arith in rw e w
 
--- A write behind the first n tokens leaves them as they are.
-pub written-below : (a b : List ℕ) (j : ℕ) → Outside (j * 5) (j * 5 + 5) a b → (n : ℕ) → n ≤ j → Written a n → Written b n
-unfolding Written
-written-below a b j o n h w i l =
-    let e : five-at b i ≡ five-at a i = five-below a b j o i (omega arith) in
-    e ∙ w i l ∙ ap (λ (t : Token). token-of (token-by t)) (sym e)
-
 pub written-none : (a : List ℕ) → Written a 0
 unfolding Written
 written-none a i l = absurd (omega arith)
-
--- fewer tokens
-pub written-less : (a : List ℕ) (n k : ℕ) → k ≤ n → Written a n → Written a k
-unfolding Written
-written-less a n k h w i l = w i (omega arith)
 
 -- one token more, which has its numbers
 pub written-one : (a : List ℕ) (n : ℕ) → five-at a n ≡ token-of (token-at a n) → Written a n → Written a (n + 1)
@@ -186,7 +174,6 @@ pushed a n t b h e =
     let o : Outside (n * 5) (n * 5 + 5) a b = rw e (put-outside a n (token-of t)) in
     record {
       queue = rw (add-one n) (ap₂ (λ (q : List QueueableToken) (u : QueueableToken). q ++ (u ∷ [])) (before-kept a b n o n (omega arith)) here);
-      written = λ w. written-one b n (five ∙ ap token-of (sym here)) (written-changed a b n o n (five ∙ ap token-of (sym here)) w);
       others = o;
     }
 
@@ -200,12 +187,6 @@ start-by t e = rw (eq-eqb (t .kind) 1 e)
 pub end-by : (t : Token) → (t .kind ≡ 1 → ⊥) → token-by t ≡ End (t .partner) (t .rule) (t .tag) (t .position)
 end-by t f = rw (ne-eqb (t .kind) 1 f)
 
-start-again : (t : Token) (v : ℕ) → t .kind ≡ 1 → t ≡ token-of (token-by t) → with-partner v t ≡ token-of (token-by (with-partner v t))
-start-again t v e w =
-    let s : t ≡ token-of (Start (t .partner) (t .position)) = w ∙ ap token-of (start-by t e) in
-    five-ext e refl refl (ap (λ (x : Token). x .rule) s) (ap (λ (x : Token). x .tag) s)
-    ∙ sym (ap token-of (start-by (with-partner v t) e))
-
 partner-five : (a : List ℕ) (i v : ℕ) → i * 5 + 5 ≤ length a → five-at (set a (i * 5 + 1) v) i ≡ with-partner v (five-at a i)
 partner-five a i v h =
     five-ext (getD-set-other a (i * 5 + 1) (i * 5) v 0 (omega arith)) (getD-set-same a (i * 5 + 1) v 0 (omega arith))
@@ -214,8 +195,7 @@ partner-five a i v h =
 
 module _ (a : List ℕ) (i v : ℕ) (h : i * 5 + 5 ≤ length a) where
   pub patched-start : getD a (i * 5) 0 ≡ 1 → Patched a i v (set a (i * 5 + 1) v)
-  unfolding Written
-  patched-start e = record { queue = λ n. same n (decLt i n); written = λ n w. written n w (decLt i n); others = o }
+  patched-start e = record { queue = λ n. same n (decLt i n); others = o }
     where
       o : Outside (i * 5) (i * 5 + 5) a (set a (i * 5 + 1) v)
       o = outside-set-in a (i * 5) (i * 5 + 5) (i * 5 + 1) v (omega arith) (omega arith)
@@ -229,14 +209,8 @@ module _ (a : List ℕ) (i v : ℕ) (h : i * 5 + 5 ≤ length a) where
           ∙ ap (set (queue-of a n) i) (here ∙ sym (ap (with-end v) (queue-getD a n i (Start 0 0) l)))
       same n (no f) = before-kept a (set a (i * 5 + 1) v) i o n (omega arith) ∙ sym (set-out (queue-of a n) i _ (omega (arith, queue-length a n)))
 
-      written : (n : ℕ) → Written a n → Dec (i < n) → Written (set a (i * 5 + 1) v) n
-      written n w (yes l) =
-          written-changed a (set a (i * 5 + 1) v) i o n
-          (partner-five a i v h ∙ start-again (five-at a i) v e (w i l) ∙ sym (ap (λ (t : Token). token-of (token-by t)) (partner-five a i v h))) w
-      written n w (no f) = written-below a (set a (i * 5 + 1) v) i o n (omega arith) w
-
   pub patched-end : (getD a (i * 5) 0 ≡ 1 → ⊥) → Patched a i v a
-  patched-end f = record { queue = λ n. same n (decLt i n); written = λ n w. w; others = outside-refl a }
+  patched-end f = record { queue = λ n. same n (decLt i n); others = outside-refl a }
     where
       same : (n : ℕ) → Dec (i < n) → queue-of a n ≡ set (queue-of a n) i (with-end v (getD (queue-of a n) i (Start 0 0)))
       same n (yes l) =
@@ -248,12 +222,6 @@ module _ (a : List ℕ) (i v : ℕ) (h : i * 5 + 5 ≤ length a) where
 abbrev with-tag : ℕ → Token → Token
 with-tag u t = record { kind = t .kind; partner = t .partner; position = t .position; rule = t .rule; tag = u }
 
-end-again : (t : Token) (u : ℕ) → (t .kind ≡ 1 → ⊥) → t ≡ token-of (token-by t) → with-tag u t ≡ token-of (token-by (with-tag u t))
-end-again t u f w =
-    let s : t ≡ token-of (End (t .partner) (t .rule) (t .tag) (t .position)) = w ∙ ap token-of (end-by t f) in
-    five-ext (ap (λ (x : Token). x .kind) s) refl refl refl refl
-    ∙ sym (ap token-of (end-by (with-tag u t) f))
-
 tag-five : (a : List ℕ) (i u : ℕ) → i * 5 + 5 ≤ length a → five-at (set a (i * 5 + 4) u) i ≡ with-tag u (five-at a i)
 tag-five a i u h =
     five-ext (getD-set-other a (i * 5 + 4) (i * 5) u 0 (omega arith)) (getD-set-other a (i * 5 + 4) (i * 5 + 1) u 0 (omega arith))
@@ -262,7 +230,7 @@ tag-five a i u h =
 
 pub tagged-none : (a : List ℕ) (n u : ℕ) → n ≡ 0 → Tagged a n u a
 unfolding queue-of
-tagged-none a n u e = record { queue = rw e; written = λ w. w; others = outside-refl a }
+tagged-none a n u e = record { queue = rw e; others = outside-refl a }
 
 module _ (a : List ℕ) (m u : ℕ) (h : m * 5 + 5 ≤ length a) where
   tag-start : getD a (m * 5) 0 ≡ 1 → queue-of a (suc m) ≡ tag-last u (queue-of a (suc m))
@@ -283,24 +251,17 @@ module _ (a : List ℕ) (m u : ℕ) (h : m * 5 + 5 ≤ length a) where
       ∙ sym (tag-at-end u (queue-of a m) _ _ _ _)
       ∙ ap (λ (t : QueueableToken). tag-last u (queue-of a m ++ (t ∷ []))) (sym (end-by (five-at a m) f))
 
-  tag-written : (getD a (m * 5) 0 ≡ 1 → ⊥) → Written a (suc m) → Written (set a (m * 5 + 4) u) (suc m)
-  unfolding Written
-  tag-written f w =
-      written-changed a (set a (m * 5 + 4) u) m tag-outside (suc m)
-      (tag-five a m u h ∙ end-again (five-at a m) u f (w m (omega arith)) ∙ sym (ap (λ (t : Token). token-of (token-by t)) (tag-five a m u h))) w
-
 module _ (a : List ℕ) (n u : ℕ) (f : n ≡ 0 → ⊥) (h : n * 5 ≤ length a) where
   pub tagged-start : getD a ((n - 1) * 5) 0 ≡ 1 → Tagged a n u a
   tagged-start e =
       let j : n ≡ suc (n - 1) = omega (arith, f) in
-      record { queue = ap (queue-of a) j ∙ tag-start a (n - 1) u (omega arith) e ∙ sym (ap (λ (k : ℕ). tag-last u (queue-of a k)) j); written = λ w. w; others = outside-refl a }
+      record { queue = ap (queue-of a) j ∙ tag-start a (n - 1) u (omega arith) e ∙ sym (ap (λ (k : ℕ). tag-last u (queue-of a k)) j); others = outside-refl a }
 
   pub tagged-end : (getD a ((n - 1) * 5) 0 ≡ 1 → ⊥) → Tagged a n u (set a ((n - 1) * 5 + 4) u)
   tagged-end g =
       let j : n ≡ suc (n - 1) = omega (arith, f) in
       record {
         queue = ap (queue-of (set a ((n - 1) * 5 + 4) u)) j ∙ tag-end a (n - 1) u (omega arith) g ∙ sym (ap (λ (k : ℕ). tag-last u (queue-of a k)) j);
-        written = λ w. subst (λ (k : ℕ). Written (set a ((n - 1) * 5 + 4) u) k) (sym j) (tag-written a (n - 1) u (omega arith) g (subst (Written a) j w));
         others = outside-wider (omega arith) (omega arith) (tag-outside a (n - 1) u (omega arith));
       }
 

@@ -1,18 +1,13 @@
--- The leaves of `rule`: the part before its body, and what the code needs and keeps of the token area.
-use mathlib.Core.Path.{_≡_}
+-- The leaves of `rule`: the part before its body, and what the code needs of the areas.
 use mathlib.Core.Bool.{Bool, true, false}
 use mathlib.Core.List.{List}
 use Prim.Native.Nat.{ℕ, _*_, _≤_}
 use lib.ListN.{length, take}
 use Rattle.engine.specs.declared.parser_state.ParserState as State
-use Rattle.engine.specs.declared.parser_state.Ending as Answer
-use Rattle.engine.specs.declared.parser_state.Ending.the-variants as Answer-of
 use Rattle.reading.specs.Ending.{if_then_else_, Ending, Ok}
 use Rattle.reading.specs.Reading.{Setting, most-entries, most-debt}
 use Rattle.reading.specs.Pest.{ParserState, Start, produces, push-token, set-queue}
-use Rattle.engine.specs.Areas.{Outside}
 use Rattle.engine.specs.Attempts.{Lent}
-use Rattle.engine.specs.Tokens.{Written}
 
 -- `rule`, up to its body
 abbrev pub starting : Setting → (line : ℕ) → ParserState → Ending ParserState
@@ -33,14 +28,3 @@ pub record Tracking (scratch : List ℕ) (s : State.ParserState) : Type 0 where
   pub lent : Lent scratch (s .attempts)
   pub tall : s .stack .height ≤ most-entries
   pub owing : s .stack .popped ≤ most-debt
-
--- The tokens that an ending's state holds are as they were written.
-abbrev pub written-end : (tokens : List ℕ) → Answer.Ending → Type 0
-written-end a (Answer-of.Ok s) = Written a (s .queue .0)
-written-end a (Answer-of.Err s) = Written a (s .queue .0)
-written-end a (Answer-of.Stop c) = Unit {0}
-
--- What a leaf keeps of the token area, which it finds as a, with n tokens, and leaves as b.
-pub record Keeps (lo hi : ℕ) (a : List ℕ) (n : ℕ) (b : List ℕ) (r : Answer.Ending) : Type 0 where
-  pub written : Written a n → written-end b r
-  pub others : Outside lo hi a b

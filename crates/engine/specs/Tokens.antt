@@ -30,25 +30,21 @@ Written a n = (i : ℕ) → i < n → five-at a i ≡ token-of (token-at a i)
 -- b is a, with the token t pushed onto the first n.
 pub record Pushed (a : List ℕ) (n : ℕ) (t : QueueableToken) (b : List ℕ) : Type 0 where
   pub queue : queue-of b (n + 1) ≡ queue-of a n ++ (t ∷ [])
-  pub written : Written a n → Written b (n + 1)
   pub others : Outside (n * 5) (n * 5 + 5) a b
 
 -- b is a, where the Start at index i has the partner v: in the first n tokens, however many these are.
 pub record Patched (a : List ℕ) (i v : ℕ) (b : List ℕ) : Type 0 where
   pub queue : (n : ℕ) → queue-of b n ≡ set (queue-of a n) i (with-end v (getD (queue-of a n) i (Start 0 0)))
-  pub written : (n : ℕ) → Written a n → Written b n
   pub others : Outside (i * 5) (i * 5 + 5) a b
 
 -- b is a, where the Start at index i has the partner n, if it is one of the first n tokens.
 pub record Paired (a : List ℕ) (i n : ℕ) (b : List ℕ) : Type 0 where
   pub queue : queue-of b n ≡ set (queue-of a n) i (with-end n (getD (queue-of a n) i (Start 0 0)))
-  pub written : Written a n → Written b n
   pub others : Outside 0 (n * 5) a b
 
 -- b is a, where the last of the first n tokens has the tag u, if it is an End.
 pub record Tagged (a : List ℕ) (n u : ℕ) (b : List ℕ) : Type 0 where
   pub queue : queue-of b n ≡ tag-last u (queue-of a n)
-  pub written : Written a n → Written b n
   pub others : Outside ((n - 1) * 5) (n * 5) a b
 
 -- b is a, where the token at index i has the very numbers of the token that it stands for.

@@ -25,7 +25,7 @@ ghost use Rattle.reading.specs.Pest as Pest;
 ghost use Rattle.engine.specs.Areas.{Outside, view, view-end, positives-at, lengths-at};
 ghost use Rattle.engine.specs.Attempts.{Lent};
 ghost use Rattle.engine.specs.Tokens.{Paired};
-ghost use Rattle.engine.specs.Rule.{starting, dropped, Recording, Tracking, Keeps};
+ghost use Rattle.engine.specs.Rule.{starting, dropped, Recording, Tracking};
 
 pub(crate) fn is_negative(l: Lookahead) -> bool
     ensures { λ r. ⌜ r ≡ is-negative l ⌝ }
@@ -70,7 +70,7 @@ pub(crate) fn produces(s: ParserState) -> bool
 pub(crate) fn start_rule(tokens: &mut [u32], capacity: usize, line: u32, s: ParserState) -> Ending
     requires { ⌜ Recording (now tokens) capacity s ⌝ }
     ensures { λ r. ⌜ ((g : Setting) (scratch : List ℕ) → g .capacity ≡ capacity → view-end (now (tokens .exit)) scratch r ≡ starting g line (view (now (tokens .entry)) scratch s)) ⌝ }
-    ensures { λ r. ⌜ Keeps (s .queue .0 * 5) (s .queue .0 * 5 + 5) (now (tokens .entry)) (s .queue .0) (now (tokens .exit)) r ⌝ }
+    ensures { λ r. ⌜ Outside (s .queue .0 * 5) (s .queue .0 * 5 + 5) (now (tokens .entry)) (now (tokens .exit)) ⌝ }
 {
     let n = s.queue;
     let p = s.position;
@@ -140,7 +140,7 @@ pub(crate) fn close_rule(
 ) -> Ending
     requires { ⌜ Recording (now tokens) capacity s × (index .0 ≤ capacity) ⌝ }
     ensures { λ r. ⌜ ((g : Setting) (scratch : List ℕ) → g .capacity ≡ capacity → view-end (now (tokens .exit)) scratch r ≡ Pest.close-rule g true line rule (index .0) (view (now (tokens .entry)) scratch s)) ⌝ }
-    ensures { λ r. ⌜ Keeps 0 (s .queue .0 * 5 + 5) (now (tokens .entry)) (s .queue .0) (now (tokens .exit)) r ⌝ }
+    ensures { λ r. ⌜ Outside 0 (s .queue .0 * 5 + 5) (now (tokens .entry)) (now (tokens .exit)) ⌝ }
 {
     let n = s.queue;
     let p = s.position;
@@ -179,7 +179,7 @@ pub(crate) fn drop_rule(index: TokenIndex, s: ParserState) -> ParserState
 pub(crate) fn tag_node(tokens: &mut [u32], tag: u32, s: ParserState) -> Ending
     requires { ⌜ s .queue .0 * 5 ≤ length (now tokens) ⌝ }
     ensures { λ r. ⌜ ((scratch : List ℕ) → view-end (now (tokens .exit)) scratch r ≡ Pest.tag-node tag (view (now (tokens .entry)) scratch s)) ⌝ }
-    ensures { λ r. ⌜ Keeps ((s .queue .0 - 1) * 5) (s .queue .0 * 5) (now (tokens .entry)) (s .queue .0) (now (tokens .exit)) r ⌝ }
+    ensures { λ r. ⌜ Outside ((s .queue .0 - 1) * 5) (s .queue .0 * 5) (now (tokens .entry)) (now (tokens .exit)) ⌝ }
 {
     let l = s.lookahead;
     let n = s.queue;

@@ -37,10 +37,7 @@ returns c =
     let i : ℕ = c .before .before .before .before .before .before .before .before .before .before .before .before .before .before .before .before .before .before .before .before .args .index .0 in
     let on : ((scratch : List ℕ) → produces (view a scratch s) ≡ true) = λ scratch. sym (c .before .before .before .before .before .before .before .before .before .before .before .before .before .before .before .before .produces .ensures a scratch) ∙ c .before .before .before .before .before .before .before .before .before .before .before .before .before .before .before .if1 .taken in (
       λ g scratch e. close-ok g (c .before .before .before .before .before .before .before .before .before .before .before .before .before .before .before .before .before .before .before .before .args .line) (c .before .before .before .before .before .before .before .before .before .before .before .before .before .before .before .before .before .before .before .before .args .rule) i (view a scratch s) _ _ (on scratch) (room-yes a n (c .before .before .before .before .before .before .before .before .before .before .before .before .before .before .before .before .before .before .before .before .args .capacity) (g .capacity) e (c .before .before .before .before .before .before .before .before .before .before .before .before .before .if2 .taken)) (paired-queue a b i n (c .before .before .before .before .before .before .before .before .before .before .pair-up .ensures)) (c .before .before .before .before .before .before .push-end .ensures .queue),
-      record {
-        written = λ w. c .before .before .before .before .before .before .push-end .ensures .written (c .before .before .before .before .before .before .before .before .before .before .pair-up .ensures .written w);
-        others = outside-trans (outside-wider (omega arith) (omega arith) (c .before .before .before .before .before .before .before .before .before .before .pair-up .ensures .others)) (outside-wider (omega arith) (omega arith) (c .before .before .before .before .before .before .push-end .ensures .others));
-      },
+      outside-trans (outside-wider (omega arith) (omega arith) (c .before .before .before .before .before .before .before .before .before .before .pair-up .ensures .others)) (outside-wider (omega arith) (omega arith) (c .before .before .before .before .before .before .push-end .ensures .others)),
     )
 
 returns-2 : tie.Need-returns-2
@@ -51,7 +48,7 @@ returns-2 c =
     let i : ℕ = c .before .before .before .before .before .before .before .args .index .0 in
     let on : ((scratch : List ℕ) → produces (view a scratch s) ≡ true) = λ scratch. sym (c .before .before .before .produces .ensures a scratch) ∙ c .before .before .if1 .taken in (
       λ g scratch e. close-full g (c .before .before .before .before .before .before .before .args .line) (c .before .before .before .before .before .before .before .args .rule) i (view a scratch s) (on scratch) (room-no a n (c .before .before .before .before .before .before .before .args .capacity) (g .capacity) e (c .if2 .left)),
-      record { written = λ w. tt; others = outside-refl a },
+      outside-refl a,
     )
 
 returns-3 : tie.Need-returns-3
@@ -61,7 +58,7 @@ returns-3 c =
     let i : ℕ = c .before .before .before .before .before .args .index .0 in
     let off : ((scratch : List ℕ) → produces (view a scratch s) ≡ false) = λ scratch. sym (c .before .produces .ensures a scratch) ∙ c .if1 .left in (
       λ g scratch e. close-off g (c .before .before .before .before .before .args .line) (c .before .before .before .before .before .args .rule) i (view a scratch s) (off scratch),
-      record { written = λ w. w; others = outside-refl a },
+      outside-refl a,
     )
 
 pub close-rule-spec : {M : Type 1} → statement M

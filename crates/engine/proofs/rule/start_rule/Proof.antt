@@ -31,7 +31,7 @@ returns c =
     let n : ℕ = c .before .before .before .before .before .before .before .before .before .before .before .before .before .before .before .before .args .s .queue .0 in
     let on : ((scratch : List ℕ) → produces (view a scratch s) ≡ true) = λ scratch. sym (c .before .before .before .before .before .before .before .before .before .before .before .before .produces .ensures a scratch) ∙ c .before .before .before .before .before .before .before .before .before .before .before .if1 .taken in (
       λ g scratch e. start-ok g (c .before .before .before .before .before .before .before .before .before .before .before .before .before .before .before .before .args .line) (view a scratch s) _ (on scratch) (room-yes a n (c .before .before .before .before .before .before .before .before .before .before .before .before .before .before .before .before .args .capacity) (g .capacity) e (c .before .before .before .before .before .before .before .before .before .if2 .taken)) (c .before .before .before .before .before .before .push-start .ensures .queue),
-      record { written = c .before .before .before .before .before .before .push-start .ensures .written; others = c .before .before .before .before .before .before .push-start .ensures .others },
+      c .before .before .before .before .before .before .push-start .ensures .others,
     )
 
 returns-2 : tie.Need-returns-2
@@ -41,7 +41,7 @@ returns-2 c =
     let n : ℕ = c .before .before .before .before .before .before .before .args .s .queue .0 in
     let on : ((scratch : List ℕ) → produces (view a scratch s) ≡ true) = λ scratch. sym (c .before .before .before .produces .ensures a scratch) ∙ c .before .before .if1 .taken in (
       λ g scratch e. start-full g (c .before .before .before .before .before .before .before .args .line) (view a scratch s) (on scratch) (room-no a n (c .before .before .before .before .before .before .before .args .capacity) (g .capacity) e (c .if2 .left)),
-      record { written = λ w. tt; others = outside-refl a },
+      outside-refl a,
     )
 
 returns-3 : tie.Need-returns-3
@@ -50,7 +50,7 @@ returns-3 c =
     let s : ParserState = c .before .before .before .before .before .args .s in
     let off : ((scratch : List ℕ) → produces (view a scratch s) ≡ false) = λ scratch. sym (c .before .produces .ensures a scratch) ∙ c .if1 .left in (
       λ g scratch e. start-off g (c .before .before .before .before .before .args .line) (view a scratch s) (off scratch),
-      record { written = λ w. w; others = outside-refl a },
+      outside-refl a,
     )
 
 pub start-rule-spec : {M : Type 1} → statement M

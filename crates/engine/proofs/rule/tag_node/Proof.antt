@@ -24,7 +24,7 @@ returns c =
     let a : List ℕ = c .before .before .before .before .before .before .before .before .args .tokens .now in
     let s : ParserState = c .before .before .before .before .before .before .before .before .args .s in (
       λ scratch. tag-on (c .before .before .before .before .before .before .before .before .args .tag) (view a scratch s) _ (sym (c .before .before .before .before .before .is-none .ensures) ∙ c .before .before .before .before .if1 .taken) (c .before .before .tag-last .ensures .queue),
-      record { written = c .before .before .tag-last .ensures .written; others = c .before .before .tag-last .ensures .others },
+      c .before .before .tag-last .ensures .others,
     )
 
 returns-2 : tie.Need-returns-2
@@ -32,7 +32,7 @@ returns-2 c =
     let a : List ℕ = c .before .before .before .before .args .tokens .now in
     let s : ParserState = c .before .before .before .before .args .s in (
       λ scratch. tag-off (c .before .before .before .before .args .tag) (view a scratch s) (sym (c .before .is-none .ensures) ∙ c .if1 .left),
-      record { written = λ w. w; others = outside-refl a },
+      outside-refl a,
     )
 
 pub tag-node-spec : {M : Type 1} → statement M
