@@ -5,7 +5,6 @@ mod call_limit_tracker;
 mod conclude;
 mod endings;
 mod entry;
-mod evaluation;
 mod grammar;
 mod node;
 mod nullable;

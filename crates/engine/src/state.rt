@@ -3,7 +3,7 @@ use crate::attempts::Attempts;
 use crate::call_limit_tracker::CallLimitTracker;
 use crate::call_limit_tracker::LimitReached;
 use crate::conclude::conclude;
-use crate::evaluation::node;
+use crate::parser_state::node;
 use crate::grammar::Refused;
 use crate::grammar::refusal;
 use crate::parser_state::ParserState;

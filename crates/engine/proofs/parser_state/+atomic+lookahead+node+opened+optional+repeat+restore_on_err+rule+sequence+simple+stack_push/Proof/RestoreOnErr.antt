@@ -1,9 +1,9 @@
 -- As `sequence`, with an entry that is not counted.
 use borrow.Author.Needs.{needs}
 use Prim.Native.Nat.{ℕ}
-use Rattle.engine.proofs.evaluation.restore_on_err.Reads as restore-on-err
-use Rattle.engine.proofs.evaluation.+atomic+lookahead+node+opened+optional+repeat+restore_on_err+rule+sequence+simple+stack_push.Lts-restore_on_err as restore-on-err-lts
-use Rattle.engine.proofs.evaluation.+atomic+lookahead+node+opened+optional+repeat+restore_on_err+rule+sequence+simple+stack_push.Proof.Measures.{restore-on-err-at, restore-on-err-calls}
+use Rattle.engine.proofs.parser_state.restore_on_err.Reads as restore-on-err
+use Rattle.engine.proofs.parser_state.+atomic+lookahead+node+opened+optional+repeat+restore_on_err+rule+sequence+simple+stack_push.Lts-restore_on_err as restore-on-err-lts
+use Rattle.engine.proofs.parser_state.+atomic+lookahead+node+opened+optional+repeat+restore_on_err+rule+sequence+simple+stack_push.Proof.Measures.{restore-on-err-at, restore-on-err-calls}
 use mathlib.Core.Path.{_≡_, _∙_}
 use mathlib.Core.Bool.{false}
 use Prim.Native.Nat.{_-_, _≤_}

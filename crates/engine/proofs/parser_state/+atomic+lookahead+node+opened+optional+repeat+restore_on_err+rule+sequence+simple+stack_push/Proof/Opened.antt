@@ -1,8 +1,8 @@
 -- In each arm the kind is known, and so is the tree; the last kind is a call, which is its rule.
 use Prim.Native.Nat.{ℕ}
-use Rattle.engine.proofs.evaluation.opened.Reads as opened
-use Rattle.engine.proofs.evaluation.+atomic+lookahead+node+opened+optional+repeat+restore_on_err+rule+sequence+simple+stack_push.Lts-opened as opened-lts
-use Rattle.engine.proofs.evaluation.+atomic+lookahead+node+opened+optional+repeat+restore_on_err+rule+sequence+simple+stack_push.Proof.Measures.{opened-at, opened-calls}
+use Rattle.engine.proofs.parser_state.opened.Reads as opened
+use Rattle.engine.proofs.parser_state.+atomic+lookahead+node+opened+optional+repeat+restore_on_err+rule+sequence+simple+stack_push.Lts-opened as opened-lts
+use Rattle.engine.proofs.parser_state.+atomic+lookahead+node+opened+optional+repeat+restore_on_err+rule+sequence+simple+stack_push.Proof.Measures.{opened-at, opened-calls}
 use mathlib.Core.Path.{_∙_}
 use native.Mathlib.Omega.{arith}
 use Rattle.engine.proofs.Steps.{tests}

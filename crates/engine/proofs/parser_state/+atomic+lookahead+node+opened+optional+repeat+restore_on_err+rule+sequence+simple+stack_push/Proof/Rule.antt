@@ -1,9 +1,9 @@
 -- An open entry, what is noted, the Start, the body, `rule_end`: each one's equation, put together by `rule-step`.
 use borrow.Author.Needs.{needs}
 use Prim.Native.Nat.{ℕ}
-use Rattle.engine.proofs.evaluation.rule.Reads as rule
-use Rattle.engine.proofs.evaluation.+atomic+lookahead+node+opened+optional+repeat+restore_on_err+rule+sequence+simple+stack_push.Lts-rule as rule-lts
-use Rattle.engine.proofs.evaluation.+atomic+lookahead+node+opened+optional+repeat+restore_on_err+rule+sequence+simple+stack_push.Proof.Measures.{rule-at, rule-calls}
+use Rattle.engine.proofs.parser_state.rule.Reads as rule
+use Rattle.engine.proofs.parser_state.+atomic+lookahead+node+opened+optional+repeat+restore_on_err+rule+sequence+simple+stack_push.Lts-rule as rule-lts
+use Rattle.engine.proofs.parser_state.+atomic+lookahead+node+opened+optional+repeat+restore_on_err+rule+sequence+simple+stack_push.Proof.Measures.{rule-at, rule-calls}
 use mathlib.Core.Path.{_≡_, refl, _∙_}
 use mathlib.Core.Bool.{true}
 use Prim.Native.Nat.{_-_, _≤_}

@@ -1,9 +1,9 @@
 -- An open entry, the body, `optional_end`.
 use borrow.Author.Needs.{needs}
 use Prim.Native.Nat.{ℕ}
-use Rattle.engine.proofs.evaluation.optional.Reads as optional
-use Rattle.engine.proofs.evaluation.+atomic+lookahead+node+opened+optional+repeat+restore_on_err+rule+sequence+simple+stack_push.Lts-optional as optional-lts
-use Rattle.engine.proofs.evaluation.+atomic+lookahead+node+opened+optional+repeat+restore_on_err+rule+sequence+simple+stack_push.Proof.Measures.{optional-at, optional-calls}
+use Rattle.engine.proofs.parser_state.optional.Reads as optional
+use Rattle.engine.proofs.parser_state.+atomic+lookahead+node+opened+optional+repeat+restore_on_err+rule+sequence+simple+stack_push.Lts-optional as optional-lts
+use Rattle.engine.proofs.parser_state.+atomic+lookahead+node+opened+optional+repeat+restore_on_err+rule+sequence+simple+stack_push.Proof.Measures.{optional-at, optional-calls}
 use mathlib.Core.Path.{_≡_}
 use mathlib.Core.Bool.{true}
 use Prim.Native.Nat.{_≤_}

@@ -1,8 +1,8 @@
 -- A line that opens a call or not, as its kind says.
 use Prim.Native.Nat.{ℕ}
-use Rattle.engine.proofs.evaluation.simple.Reads as simple
-use Rattle.engine.proofs.evaluation.+atomic+lookahead+node+opened+optional+repeat+restore_on_err+rule+sequence+simple+stack_push.Lts-simple as simple-lts
-use Rattle.engine.proofs.evaluation.+atomic+lookahead+node+opened+optional+repeat+restore_on_err+rule+sequence+simple+stack_push.Proof.Measures.{simple-at, simple-calls}
+use Rattle.engine.proofs.parser_state.simple.Reads as simple
+use Rattle.engine.proofs.parser_state.+atomic+lookahead+node+opened+optional+repeat+restore_on_err+rule+sequence+simple+stack_push.Lts-simple as simple-lts
+use Rattle.engine.proofs.parser_state.+atomic+lookahead+node+opened+optional+repeat+restore_on_err+rule+sequence+simple+stack_push.Proof.Measures.{simple-at, simple-calls}
 use native.Mathlib.Omega.{arith}
 use Rattle.engine.proofs.Steps.{tests}
 use Rattle.engine.proofs.LineSteps.{whole, opens-at}

@@ -1,7 +1,7 @@
 -- In each arm the kind is known; the leaf answers what the tree of that kind does.
 use borrow.Author.Needs.{needs}
-use Rattle.engine.proofs.evaluation.terminal.Statement.{statement}
-use Rattle.engine.proofs.evaluation.terminal.Tie as tie
+use Rattle.engine.proofs.parser_state.terminal.Statement.{statement}
+use Rattle.engine.proofs.parser_state.terminal.Tie as tie
 use Rattle.engine.proofs.IndexLaws.{back}
 use mathlib.Core.Path.{refl}
 use mathlib.Core.Logic.{inl, inr}

@@ -1,6 +1,6 @@
 -- The kinds by range.
-use Rattle.engine.proofs.evaluation.opens.Statement.{statement}
-use Rattle.engine.proofs.evaluation.opens.Tie as tie
+use Rattle.engine.proofs.parser_state.opens.Statement.{statement}
+use Rattle.engine.proofs.parser_state.opens.Tie as tie
 use Rattle.engine.proofs.LineSteps.{opens-low, opens-mid, opens-18, opens-rest}
 
 returns : tie.Need-returns

@@ -1,9 +1,9 @@
 -- As `optional`; the span that is pushed begins where the entry was.
 use borrow.Author.Needs.{needs}
 use Prim.Native.Nat.{ℕ}
-use Rattle.engine.proofs.evaluation.stack_push.Reads as stack-push
-use Rattle.engine.proofs.evaluation.+atomic+lookahead+node+opened+optional+repeat+restore_on_err+rule+sequence+simple+stack_push.Lts-stack_push as stack-push-lts
-use Rattle.engine.proofs.evaluation.+atomic+lookahead+node+opened+optional+repeat+restore_on_err+rule+sequence+simple+stack_push.Proof.Measures.{stack-push-at, stack-push-calls}
+use Rattle.engine.proofs.parser_state.stack_push.Reads as stack-push
+use Rattle.engine.proofs.parser_state.+atomic+lookahead+node+opened+optional+repeat+restore_on_err+rule+sequence+simple+stack_push.Lts-stack_push as stack-push-lts
+use Rattle.engine.proofs.parser_state.+atomic+lookahead+node+opened+optional+repeat+restore_on_err+rule+sequence+simple+stack_push.Proof.Measures.{stack-push-at, stack-push-calls}
 use mathlib.Core.Path.{_≡_, _∙_}
 use mathlib.Core.Bool.{true}
 use Prim.Native.Nat.{_≤_}

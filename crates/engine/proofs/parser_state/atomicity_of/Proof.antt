@@ -1,7 +1,7 @@
 -- The three cases of the field.
 use borrow.Author.Needs.{needs}
-use Rattle.engine.proofs.evaluation.atomicity_of.Statement.{statement}
-use Rattle.engine.proofs.evaluation.atomicity_of.Tie as tie
+use Rattle.engine.proofs.parser_state.atomicity_of.Statement.{statement}
+use Rattle.engine.proofs.parser_state.atomicity_of.Tie as tie
 use Rattle.engine.proofs.LineSteps.{non-atomic}
 
 returns : tie.Need-returns
