@@ -1,0 +1,6 @@
+-- What the exported functions hand back, as the outcome of which `run` and `read_sheet` promise.
+use Rattle.engine.specs.declared.state.Outcome.{Outcome}
+use Rattle.parser_core.specs.declared.ParserCoreOutcome as Exported
+
+abbrev pub returned : Exported.ParserCoreOutcome → Outcome
+returned o = record { number = o .number; place = o .place; count = o .count }
