@@ -1,6 +1,5 @@
 //! Programs that promise document 01's whole `run`, areas included, and are held against the
-//! oracle on every case. The Rattle library becomes one: a module beside this one, behind a
-//! feature, whose `run` passes the slices through the C ABI.
+//! oracle on every case.
 
 use oracle::Outcome;
 
@@ -14,5 +13,41 @@ pub trait Contender {
 
 /// Those linked into this build.
 pub fn contenders() -> Vec<Box<dyn Contender>> {
-    Vec::new()
+    vec![
+        #[cfg(feature = "library")]
+        Box::new(library::Library::default()),
+    ]
+}
+
+#[cfg(feature = "library")]
+mod library {
+    use super::*;
+    use crate::case::FILL;
+
+    /// The Rattle library. Scratch keeps what the last run left: nothing may depend on it.
+    #[derive(Default)]
+    pub struct Library {
+        scratch: Vec<u32>,
+    }
+
+    impl Contender for Library {
+        fn name(&self) -> &'static str {
+            "library"
+        }
+
+        fn run(&mut self, case: &Case, areas: &mut Areas) -> Outcome {
+            self.scratch.resize(case.scratch, FILL);
+            let parser_core::Outcome { number, place, count } = parser_core::run(
+                &case.nodes,
+                &case.literals,
+                &case.text,
+                case.depth_limit,
+                case.call_limit,
+                &mut areas.tokens,
+                &mut areas.report,
+                &mut self.scratch,
+            );
+            Outcome { number, place, count }
+        }
+    }
 }
