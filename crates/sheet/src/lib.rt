@@ -2,4 +2,5 @@
 mod field;
 pub mod listing;
 mod numeral;
+pub mod run_sheet;
 pub mod sheet;

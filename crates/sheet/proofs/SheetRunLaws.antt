@@ -1,0 +1,62 @@
+-- The part of the node area that a good sheet lends to the run holds just its nodes, so the run is one over these. A buffer of 65,536
+-- bytes is no whole number of lines.
+use Prim.Native.Nat.{ℕ, zero, suc, _+_, _*_, _%_}
+use native.Mathlib.Omega.{arith}
+use mathlib.Core.Path.{_≡_, refl, sym, ap, _∙_}
+use mathlib.Core.Bool.{cond}
+use mathlib.Core.List.{List, [], _∷_, _++_}
+use mathlib.Core.Option.{Option, none, some}
+use lib.IntN.{ℤ}
+use lib.ListN.{length, take, drop}
+use lib.Seq.{take-append-seam}
+use Rattle.engine.specs.declared.state.Outcome.{Outcome}
+use Rattle.sheet.specs.Area.{over}
+use Rattle.sheet.specs.Sheet.{Node, cut, count, lines, line, reads, first-malformed, four, numbers, Reading, refused, read, reading, outcome, SheetRead}
+use Rattle.sheet.specs.SheetRun.{Given, Back, Answered, SheetRun}
+use Rattle.sheet.proofs.SheetLaws.{lined-odd, test-1, Passed, passed}
+
+cut-length : (n : ℕ) (s : List ℕ) → length (cut n s) ≡ n
+unfolding cut
+cut-length zero s = refl
+cut-length (suc n) s = ap suc (cut-length n (drop 41 s))
+
+-- four numbers a line, where none is malformed
+numbers-length : (k : ℕ) (ls : List (List ℕ)) → first-malformed (suc k) ls ≡ 0 → length (numbers ls) ≡ length ls * 4
+unfolding first-malformed numbers
+numbers-length k [] e = refl
+numbers-length k (l ∷ ls) e = go (line l) e (numbers-length (suc k) ls)
+  where
+    go :
+        (x : Option Node) → cond (reads x) (first-malformed (suc (suc k)) ls) (suc k) ≡ 0 →
+        (first-malformed (suc (suc k)) ls ≡ 0 → length (numbers ls) ≡ length ls * 4) →
+        length (four x ++ numbers ls) ≡ suc (length ls) * 4
+    go none e h = absurd (omega arith)
+    go (some v) e h = omega (arith, h e)
+
+module _ (s : List ℕ) (a b : List ℤ) (r : Outcome) (g : Given) (w : SheetRead s a b r) where
+  pub run-refused : (r .number ≡ 0 → ⊥) → SheetRun s a b g (record { answer = r; tokens = g .tokens; report = g .report })
+  run-refused z = record { answered = go (reading s (length a)) (w .answer); area = w .area }
+    where
+      go : (x : Reading) → r ≡ outcome x → Answered x g (record { answer = r; tokens = g .tokens; report = g .report })
+      go (refused n p) e = (e, refl, refl)
+      go (read k ns) e = absurd (z (ap (λ y. y .number) e))
+
+  module _ (z : r .number ≡ 0) where
+    -- what is lent to the run
+    lent : take (r .count * 4) b ≡ numbers (lines s)
+    unfolding over
+    lent =
+        let p = passed s (length a) r (w .answer) z in
+        let c : r .count ≡ count s = ap (λ y. y .count) (w .answer) ∙ ap (λ y. (outcome y) .count) (p .all) in
+        let l : length (numbers (lines s)) ≡ r .count * 4 = numbers-length 0 (lines s) (p .good) ∙ rw (cut-length (count s) s, c) in
+        let e : b ≡ numbers (lines s) ++ drop (length (numbers (lines s))) a = w .area ∙ rw (p .all) in
+        rw (e, ← l) (take-append-seam (numbers (lines s)) _)
+
+    pub run-read : (t : Back) → Answered (read (r .count) (take (r .count * 4) b)) g t → SheetRun s a b g t
+    run-read t h =
+        let p = passed s (length a) r (w .answer) z in
+        record { answered = rw (p .all, ← lent) h; area = w .area }
+
+-- what planread's buffer holds of a sheet over 65,535 bytes
+pub overlong : (s : List ℕ) (room : ℕ) → length s ≡ 65536 → reading s room ≡ refused 1 0
+overlong s room e = test-1 s room (sym (lined-odd s (λ m. omega (arith, m, e))))

@@ -1,0 +1,53 @@
+-- A sheet's grammar over a text. Document 01, "Stops and refusals": "Sheet reading tests 1 to 3, a run 4 to 9, in order".
+use Prim.Native.Nat.{ℕ}
+use mathlib.Core.Path.{_≡_}
+use mathlib.Core.List.{List}
+use lib.IntN.{ℤ}
+use lib.ListN.{length}
+use Rattle.engine.specs.declared.state.Outcome.{Outcome}
+use Rattle.engine.specs.Run.{Ran}
+use Rattle.sheet.specs.Sheet.{Reading, refused, read, reading, outcome, area-after}
+
+-- What is handed over: the two texts, the limits, the token and report areas as they are at the start, and the size of scratch.
+pub record Given : Type 0 where
+  pub literals : List ℕ
+  pub text : List ℕ
+  pub depth-limit : ℕ
+  pub call-limit : ℕ
+  pub tokens : List ℕ
+  pub report : List ℕ
+  pub scratch : ℕ
+
+-- What comes back: number, place, count, and the two areas as they stand at the end.
+pub record Back : Type 0 where
+  pub answer : Outcome
+  pub tokens : List ℕ
+  pub report : List ℕ
+
+-- A refused sheet is answered by its own number, and leaves both areas. A good one is run: the nodes that it gave, and no others.
+abbrev pub Answered : Reading → Given → Back → Type 0
+Answered (refused n p) g b = (b .answer ≡ outcome (refused n p)) × (b .tokens ≡ g .tokens) × (b .report ≡ g .report)
+Answered (read k ns) g b =
+    Ran
+    (record {
+      nodes = ns;
+      literals = g .literals;
+      text = g .text;
+      depth-limit = g .depth-limit;
+      call-limit = g .call-limit;
+      tokens = g .tokens;
+      report = g .report;
+      scratch = g .scratch;
+    })
+    (record {
+      number = b .answer .number;
+      place = b .answer .place;
+      count = b .answer .count;
+      tokens = b .tokens;
+      report = b .report;
+    })
+
+-- What `run_sheet` promises: the answer, both areas, and the node area.
+pub record SheetRun (sheet : List ℕ) (before after : List ℤ) (g : Given) (b : Back) : Type 0 where
+  pub answered : Answered (reading sheet (length before)) g b
+  pub area : after ≡ area-after (reading sheet (length before)) before
