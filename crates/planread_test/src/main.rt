@@ -39,7 +39,14 @@ fn case(name: &[u8], sheet: &[u8], literals: &[u8], text: &[u8]) {
     list(name);
 }
 
-// A part so many times over as the text.
+// A grammar that stands in files, over a part so many times as the text.
+fn over(name: &[u8], sheet: &[u8], literals: &[u8], part: &[u8], times: u64) {
+    put(b"plan.txt", part, times);
+    heading(name);
+    files::list_files(sheet, literals, b"plan.txt");
+}
+
+// A sheet over a part so many times as the text.
 fn long(name: &[u8], sheet: &[u8], part: &[u8], times: u64) {
     put_grammar(sheet, b"abc");
     put(b"plan.txt", part, times);
@@ -163,28 +170,35 @@ fn order() {
 }
 
 fn failures() {
-    // rule 7 over `a`, then tag 3
-    let m2 =
-        b"   1           0           1           0\n   8           7           1           0\n  19           3           0           0\n   6           2           3           0\n";
-    case(b"a positive", m2, b"abc", b"b");
+    over(
+        b"a positive",
+        b"first/sheet.txt",
+        b"first/literals.txt",
+        b"b",
+        1,
+    );
     // no rule 7 over `a`, or else rule 8 over `b`
-    let both =
-        b"   1           0           1           0\n   8           7           1           0\n  12           2           0           0\n   1           1           1           0\n   8           8           4           0\n   7           3           5           0\n";
-    case(b"a positive and a negative", both, b"abc", b"a");
-    heading(b"channels, a comma for the point");
-    put(
-        b"plan.txt",
+    over(
+        b"a positive and a negative",
+        b"both_signs.txt",
+        b"first/literals.txt",
+        b"a",
+        1,
+    );
+    over(
+        b"channels, a comma for the point",
+        b"channels/sheet.txt",
+        b"channels/literals.txt",
         b"R-NORD 145600.000 -600000\nR-SUD 145612,500 -600000\n",
         1,
     );
-    files::list_files(b"channels/sheet.txt", b"channels/literals.txt", b"plan.txt");
-    heading(b"heredoc, a note that is not closed");
-    put(
-        b"plan.txt",
+    over(
+        b"heredoc, a note that is not closed",
+        b"heredoc/sheet.txt",
+        b"heredoc/literals.txt",
         b"07:40 north: <<END\nNothing\n08:00 base: END\n",
         1,
     );
-    files::list_files(b"heredoc/sheet.txt", b"heredoc/literals.txt", b"plan.txt");
 }
 
 fn depth() {
@@ -194,9 +208,18 @@ fn depth() {
         b"",
         b"a",
     );
-    heading(b"json, 1,000 open brackets");
-    put(b"plan.txt", b"[", 1000);
-    files::list_files(b"json/sheet.txt", b"json/literals.txt", b"plan.txt");
+    over(
+        b"json, 1,000 open brackets",
+        b"json/sheet.txt",
+        b"json/literals.txt",
+        b"[",
+        1000,
+    );
+}
+
+// `a`, so many times over, for a sheet that stands in a file of its own.
+fn letters(name: &[u8], sheet: &[u8], times: u64) {
+    over(name, sheet, b"first/literals.txt", b"a", times);
 }
 
 fn stops() {
@@ -207,25 +230,14 @@ fn stops() {
         b"a",
     );
     // rule 7 over `a`, as long as `a` is ahead, then `c`
-    let pairs =
-        b"   1           0           1           0\n   8           7           1           0\n  12           1           1           0\n   6           3           2           0\n   9           4           0           0\n  10           5           0           0\n   1           2           1           0\n   6           6           7           0\n";
-    long(b"1,638 pairs", pairs, b"a", 1638);
-    long(b"1,639 pairs", pairs, b"a", 1639);
+    letters(b"1,638 pairs", b"pairs.txt", 1638);
+    letters(b"1,639 pairs", b"pairs.txt", 1639);
     // push of `a`, over and over
-    let pushes =
-        b"   1           0           1           0\n  14           1           0           0\n  10           2           0           0\n";
-    long(b"128 entries", pushes, b"a", 128);
-    long(b"129 entries", pushes, b"a", 129);
-}
-
-// An optional rule over `a`, 256 and 257 times over, where `b` stands.
-fn attempts() {
-    let most =
-        b"   1           0           1           0\n   8           7           1           0\n  11           2           0           0\n   6           3           3           0\n   6           4           4           0\n   6           5           5           0\n   6           6           6           0\n   6           7           7           0\n   6           8           8           0\n   6           9           9           0\n   6          10          10           0\n";
-    case(b"256 attempts", most, b"abc", b"b");
-    let more =
-        b"   1           0           1           0\n   8           7           1           0\n  11           2           0           0\n   6           3           3           0\n   6           4           4           0\n   6           5           5           0\n   6           6           6           0\n   6           7           7           0\n   6           8           8           0\n   6           9           9           0\n   6          10          10           0\n   6          11           3           0\n";
-    case(b"257 attempts", more, b"abc", b"b");
+    letters(b"128 entries", b"pushes.txt", 128);
+    letters(b"129 entries", b"pushes.txt", 129);
+    // an optional rule over `a`, so many times one after the other, where no text is left
+    letters(b"256 attempts", b"attempts_256.txt", 0);
+    letters(b"257 attempts", b"attempts_257.txt", 0);
 }
 
 fn main() {
@@ -239,5 +251,4 @@ fn main() {
     failures();
     depth();
     stops();
-    attempts();
 }
