@@ -20,14 +20,17 @@ fn load(path: &[u8], buf: &mut [u8]) -> usize
     n
 }
 
-// Line by line: the head and as many lines as the count says.
+// Line by line: the head and as many lines as the count says. It ends with a line that cannot be written, so that none is left out before
+// another.
 fn print_listing(o: Outcome, tokens: &[u32], report: &[u32]) {
     let mut out = [0u8; 61];
     let last = o.count as u64;
     let mut k: u64 = 0;
     while k <= last {
         let n = write_listing_line(o, tokens, report, k as u32, &mut out);
-        io::write_all(STDOUT_FILENO, &out[..n]);
+        if !io::write_all(STDOUT_FILENO, &out[..n]) {
+            return;
+        }
         k += 1;
     }
 }

@@ -37,6 +37,9 @@ slice-aggregate-write-all c = search needs
 write-all-requires : tie.Need-write-all-requires Inv-loop μ-loop
 write-all-requires c κs = search needs
 
+returns : tie.Need-returns Inv-loop μ-loop
+returns c = search needs
+
 add-k : tie.Need-add-k Inv-loop μ-loop
 add-k c = search needs
 
@@ -45,11 +48,11 @@ loop-less c = omega arith
 
 loop-again : tie.Need-loop-again Inv-loop μ-loop
 loop-again c =
-    let c₁ = c .before .before .before in
+    let c₁ = c .before .before .before .before in
     (omega arith, c₁ .before .before .before .loop .inv .1 ∙ sym (c₁ .write-listing-line .kept .1 .1 .1 .1 .0))
 
-returns : tie.Need-returns Inv-loop μ-loop
-returns c = search needs
+returns-2 : tie.Need-returns-2 Inv-loop μ-loop
+returns-2 c = search needs
 
 pub print-listing-spec : {M : Type 1} → statement M
 print-listing-spec =
@@ -65,7 +68,8 @@ print-listing-spec =
     array-share-prefix-out
     slice-aggregate-write-all
     write-all-requires
+    returns
     add-k
     loop-less
     loop-again
-    returns)
+    returns-2)
