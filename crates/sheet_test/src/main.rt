@@ -1,6 +1,8 @@
-// Runs read_sheet on good and broken sheets, and writes a line for each: its name, number, place and count, and the node area.
+// Runs read_sheet on good and broken sheets, and writes a line for each: its name, number, place and count, and the node area; then
+// listings, and run_sheet with the limits and areas that planread never has.
 use engine::state::Outcome;
 use sheet::listing::write_listing_line;
+use sheet::run_sheet::run_sheet;
 use sheet::sheet::read_sheet;
 
 const OUT: i32 = 1;
@@ -286,6 +288,74 @@ fn listings() {
     list(b"area too short", parsed, &tokens, &report, &mut short);
 }
 
+// Rule 7 over `a`, through run_sheet: the outcome and the node area.
+fn limited(
+    name: &[u8],
+    depth: u32,
+    calls: u32,
+    nodes: &mut [i32],
+    report: &mut [u32],
+    scratch: &mut [u32],
+) {
+    let mut tokens = [9u32; 10];
+    let o = run_sheet(
+        b"   1           0           1           0\n   8           7           1           0\n",
+        b"abc",
+        b"a",
+        depth,
+        calls,
+        nodes,
+        &mut tokens,
+        report,
+        scratch,
+    );
+    put_outcome(name, o);
+    put_area(nodes);
+}
+
+fn runs() {
+    let mut report = [9u32; 515];
+    let mut scratch = [9u32; 4864];
+    let mut short = [5i32; 7];
+    limited(
+        b"run, nodes short",
+        0,
+        0,
+        &mut short,
+        &mut report,
+        &mut scratch,
+    );
+    let mut nodes = [5i32; 9];
+    limited(b"run, depth 0", 0, 0, &mut nodes, &mut report, &mut scratch);
+    limited(
+        b"run, depth 1,025",
+        1025,
+        0,
+        &mut nodes,
+        &mut report,
+        &mut scratch,
+    );
+    let mut less = [9u32; 514];
+    limited(
+        b"run, report short",
+        1,
+        0,
+        &mut nodes,
+        &mut less,
+        &mut scratch,
+    );
+    let mut little = [9u32; 4863];
+    limited(
+        b"run, scratch short",
+        1,
+        0,
+        &mut nodes,
+        &mut report,
+        &mut little,
+    );
+    limited(b"run", 1, 1, &mut nodes, &mut report, &mut scratch);
+}
+
 fn main() {
     example();
     broken();
@@ -298,4 +368,5 @@ fn main() {
     most();
     one_too_many();
     listings();
+    runs();
 }
