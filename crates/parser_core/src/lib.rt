@@ -6,7 +6,7 @@ use sheet::sheet::read_sheet;
 ghost use mathlib.Core.Path.{_≡_};
 ghost use lib.ListN.{length};
 ghost use Rattle.engine.specs.Conclude.{outcome-of};
-ghost use Rattle.engine.specs.Run.{input, Ran};
+ghost use Rattle.reading.specs.Run.{input, Ran};
 ghost use Rattle.sheet.specs.Sheet.{SheetRead};
 ghost use Rattle.parser_core.specs.Returned.{returned};
 

@@ -5,7 +5,7 @@ use mathlib.Core.List.{List}
 use lib.IntN.{ℤ}
 use lib.ListN.{length}
 use Rattle.engine.specs.declared.state.Outcome.{Outcome}
-use Rattle.engine.specs.Run.{Ran}
+use Rattle.reading.specs.Run.{Ran}
 use Rattle.sheet.specs.Sheet.{Reading, refused, read, reading, outcome, area-after}
 
 -- What is handed over: the two texts, the limits, the token and report areas as they are at the start, and the size of scratch.

@@ -1,7 +1,7 @@
 -- `run`'s promise, of the outcome that was handed back.
 use borrow.Author.Needs.{needs}
 use Rattle.engine.specs.Conclude.{outcome-of}
-use Rattle.engine.specs.Run.{Ran}
+use Rattle.reading.specs.Run.{Ran}
 use Rattle.parser_core.proofs.Carried.{carried}
 use Rattle.parser_core.proofs.parser_core_run.Statement.{statement}
 use Rattle.parser_core.proofs.parser_core_run.Tie as tie
