@@ -4,7 +4,7 @@ ghost use mathlib.Core.Bool.{Bool, false};
 ghost use Rattle.engine.specs.declared.call_limit_tracker.LimitReached.the-variants as Reached;
 ghost use Rattle.reading.specs.Pest.{exceeded, one-more, enter};
 ghost use Rattle.engine.specs.Areas.{limit-of, tracker-of};
-ghost use Rattle.engine.specs.Entry.{entered-of, by-depth};
+ghost use Rattle.engine.specs.Entry.{entered-of, entered-with, by-depth, room-for};
 
 // Whether a limit was reached (pest's `Option<LimitKind>`).
 pub enum LimitReached {
@@ -92,4 +92,41 @@ pub(crate) fn entered(t: CallLimitTracker, counted: bool, room: bool) -> Admitte
         LimitReached::By(_) => Admitted::No(t),
         LimitReached::No => by_limits(t, counted, room),
     }
+}
+
+// What an entry answers beside the tracker after it, for `enter` to store.
+struct Answered {
+    answer: bool,
+    tracker: CallLimitTracker,
+}
+
+fn entered_with(t: CallLimitTracker, counted: bool, opened: u32, depth: u32) -> Answered
+    ensures { λ r. ⌜ entered-with (r .answer) (r .tracker) ≡ enter (room-for opened depth) counted (tracker-of t) ⌝ }
+{
+    let room = opened < depth;
+    match entered(t, counted, room) {
+        Admitted::Yes(tracker) => Answered {
+            answer: true,
+            tracker,
+        },
+        Admitted::No(tracker) => Answered {
+            answer: false,
+            tracker,
+        },
+    }
+}
+
+// pest's `enter`: the tracker is lent, and updated; whether the entry is let in. The call limit is tested before the depth limit, for which
+// `open_calls` calls are open. Where there is no call limit, the tracker's count stands for nothing.
+pub fn enter(
+    tracker: &mut CallLimitTracker,
+    count_call: bool,
+    open_calls: u32,
+    depth_limit: u32,
+) -> bool
+    ensures { λ r. ⌜ entered-with r (now (tracker .exit)) ≡ enter (room-for «open_calls» «depth_limit») «count_call» (tracker-of (now (tracker .entry))) ⌝ }
+{
+    let next = entered_with(*tracker, count_call, open_calls, depth_limit);
+    *tracker = next.tracker;
+    next.answer
 }

@@ -1,7 +1,7 @@
 // The engine: grammar check, stack, token queue, attempts, call tracker, evaluation and run.
 mod areas;
 mod attempts;
-mod call_limit_tracker;
+pub mod call_limit_tracker;
 mod conclude;
 mod endings;
 mod entry;
