@@ -288,7 +288,7 @@ fn listings() {
     list(b"area too short", parsed, &tokens, &report, &mut short);
 }
 
-// Rule 7 over `a`, through run_sheet: the outcome and the node area.
+// Rule 7 over a sequence over `a`, through run_sheet: the outcome and the node area.
 fn limited(
     name: &[u8],
     depth: u32,
@@ -299,7 +299,7 @@ fn limited(
 ) {
     let mut tokens = [9u32; 10];
     let o = run_sheet(
-        b"   1           0           1           0\n   8           7           1           0\n",
+        b"   1           0           1           0\n   9           1           0           0\n   8           7           2           0\n",
         b"abc",
         b"a",
         depth,
@@ -313,32 +313,23 @@ fn limited(
     put_area(nodes);
 }
 
-fn runs() {
+fn short_areas() {
     let mut report = [9u32; 515];
     let mut scratch = [9u32; 4864];
-    let mut short = [5i32; 7];
+    let mut few = [5i32; 11];
     limited(
         b"run, nodes short",
         0,
         0,
-        &mut short,
+        &mut few,
         &mut report,
         &mut scratch,
     );
-    let mut nodes = [5i32; 9];
-    limited(b"run, depth 0", 0, 0, &mut nodes, &mut report, &mut scratch);
-    limited(
-        b"run, depth 1,025",
-        1025,
-        0,
-        &mut nodes,
-        &mut report,
-        &mut scratch,
-    );
+    let mut nodes = [5i32; 13];
     let mut less = [9u32; 514];
     limited(
         b"run, report short",
-        1,
+        2,
         0,
         &mut nodes,
         &mut less,
@@ -347,13 +338,45 @@ fn runs() {
     let mut little = [9u32; 4863];
     limited(
         b"run, scratch short",
-        1,
+        2,
         0,
         &mut nodes,
         &mut report,
         &mut little,
     );
-    limited(b"run", 1, 1, &mut nodes, &mut report, &mut scratch);
+}
+
+fn limits() {
+    let mut nodes = [5i32; 13];
+    let mut report = [9u32; 515];
+    let mut scratch = [9u32; 4864];
+    limited(b"run, depth 0", 0, 0, &mut nodes, &mut report, &mut scratch);
+    limited(b"run, depth 1", 1, 0, &mut nodes, &mut report, &mut scratch);
+    limited(b"run, depth 2", 2, 0, &mut nodes, &mut report, &mut scratch);
+    limited(
+        b"run, depth 1,025",
+        1025,
+        0,
+        &mut nodes,
+        &mut report,
+        &mut scratch,
+    );
+    limited(
+        b"run, call limit 1",
+        2,
+        1,
+        &mut nodes,
+        &mut report,
+        &mut scratch,
+    );
+    limited(
+        b"run, call limit 2",
+        2,
+        2,
+        &mut nodes,
+        &mut report,
+        &mut scratch,
+    );
 }
 
 fn main() {
@@ -368,5 +391,6 @@ fn main() {
     most();
     one_too_many();
     listings();
-    runs();
+    short_areas();
+    limits();
 }
