@@ -2,8 +2,9 @@
 """Wrong programs that the comparison has to refuse.
 
 Each mutant changes one place of the oracle in a copy of this folder, builds it there, and lets
-`compare` (against pest) and `answers --check` (against the fixed list) judge it. Slow; run it by
-hand: nice python3 mutants.py [folder for the copy [words of the names wanted]]
+`compare` (against pest) and `answers --check` (against the list that crates/replay replays) judge
+it. Slow; run it by hand: nice python3 mutants.py [folder for the copy [words of the names wanted]]
+With ONLY_LIST=1 in the environment only the list judges.
 """
 import os
 import pathlib
@@ -69,7 +70,7 @@ MUTANTS = [
 ]
 
 COMPARE = ["target/release/compare", "--lines", "2", "--random", "40000", "--damaged", "0", "--watch", "8"]
-REPLAY = ["target/release/answers", "--check", str(HERE / "answers-out")]
+REPLAY = ["target/release/answers", "--check", str(HERE.parent / "crates/replay/data")]
 
 BUILD = ["cargo", "build", "-j1", "--release", "--offline", "-q", "--bin", "compare", "--bin", "answers"]
 QUICK = os.environ | {"CARGO_PROFILE_RELEASE_DEBUG": "0", "CARGO_PROFILE_RELEASE_OPT_LEVEL": "1"}
@@ -95,7 +96,8 @@ def main():
         assert text.count(old) == 1, (name, text.count(old))
         (COPY / file).write_text(text.replace(old, new))
         subprocess.run(BUILD, cwd=COPY, check=True, capture_output=True, env=QUICK)
-        by_pest, by_list = refused(COMPARE), refused(REPLAY)
+        by_pest = None if os.environ.get("ONLY_LIST") else refused(COMPARE)
+        by_list = refused(REPLAY)
         survivors += not (by_pest or by_list)
         print(f"{name} | {by_pest or '-'} | {by_list or '-'}", flush=True)
         (COPY / file).write_text(text)

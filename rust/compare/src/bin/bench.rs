@@ -29,7 +29,7 @@ fn main() {
         }
     }
     stack::with_large_stack(move || {
-        println!("medians of {runs} runs by turns; texts from seed {SEED}");
+        println!("medians of {runs} runs by turns, processor time; texts from seed {SEED}");
         println!(
             "{:<12}{:>7}{:>7}{:>8}{:>9}  who            median us   ns/byte   ns/call  pest/who",
             "grammar", "lines", "bytes", "tokens", "calls"
@@ -45,18 +45,21 @@ fn main() {
 fn time(example: &Example, bytes: usize, runs: usize) {
     let text = (example.text)(bytes, SEED);
     let grammar = &example.grammar;
-    let case = Case {
-        tokens: 5 * oracle::MOST_TOKENS,
-        ..Case::new(&grammar.nodes, &grammar.literals, &text)
-    };
+    let mut case = Case::new(&grammar.nodes, &grammar.literals, &text);
     let sheet = Sheet::new(&case.nodes, &grammar.literals);
     let tokens = reference::queue_length(&sheet, &text, case.depth_limit, 0)
         .unwrap_or_else(|| panic!("{} does not match its text", example.name));
+    // Room for twice the tokens: a run writes its area to the end.
+    case.tokens = 5 * oracle::MOST_TOKENS.min(2 * tokens);
     let calls = counted_calls(&case);
 
     let mut others = contenders();
     let mut areas = Areas::default();
     areas.prepare(&case);
+    for other in &mut others {
+        let outcome = other.run(&case, &mut areas);
+        assert_eq!((outcome.number, outcome.count as usize), (0, tokens), "{}", other.name());
+    }
     let mut times = vec![Vec::with_capacity(runs); 1 + others.len()];
     warm_up(|| {
         black_box(reference::queue_length(&sheet, &text, case.depth_limit, 0));
@@ -107,10 +110,29 @@ fn warm_up(mut work: impl FnMut()) {
     }
 }
 
+/// Processor time of this thread: other work on the machine takes none of it.
 fn nanoseconds(work: impl FnOnce()) -> f64 {
-    let start = Instant::now();
+    let start = thread_time();
     work();
-    start.elapsed().as_nanos() as f64
+    thread_time() - start
+}
+
+/// In nanoseconds, by Linux's clock.
+fn thread_time() -> f64 {
+    #[repr(C)]
+    struct Timespec {
+        seconds: i64,
+        nanoseconds: i64,
+    }
+    extern "C" {
+        fn clock_gettime(clock: i32, time: *mut Timespec) -> i32;
+    }
+    const CLOCK_THREAD_CPUTIME_ID: i32 = 3;
+    let mut time = Timespec { seconds: 0, nanoseconds: 0 };
+    // SAFETY: `time` is laid out as C's on 64-bit Linux, and lent for the call alone.
+    let status = unsafe { clock_gettime(CLOCK_THREAD_CPUTIME_ID, &mut time) };
+    assert_eq!(status, 0, "the thread's clock");
+    time.seconds as f64 * 1e9 + time.nanoseconds as f64
 }
 
 fn median(times: &mut [f64]) -> f64 {
