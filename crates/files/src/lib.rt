@@ -6,6 +6,11 @@ use sheet::run_sheet::run_sheet;
 ghost use Rattle.io.specs.Counts.{Counts};
 ghost use Rattle.files.specs.Listed.{Answers, Listed};
 
+// Document 01, "Sheet and listing". A call limit of 0 is none.
+const DEPTH_LIMIT: u32 = 1024;
+
+const CALL_LIMIT: u32 = 0;
+
 // The file's first bytes, and how many; a file that is missing is empty. A buffer of 65,536 bytes is full where the file has more than
 // 65,535, and then the tests for 1, 4 and 7 refuse it.
 fn load(path: &[u8], buf: &mut [u8]) -> usize
@@ -47,8 +52,8 @@ fn list<'a>(sheet: &[u8], literals: &'a [u8], text: &'a [u8]) -> Outcome
         sheet,
         literals,
         text,
-        1024,
-        0,
+        DEPTH_LIMIT,
+        CALL_LIMIT,
         &mut nodes,
         &mut tokens,
         &mut report,
