@@ -1,7 +1,5 @@
 // Writes what a run gave back: a name, number, place and count, and both areas whole, where more than three equal numbers in a row are
 // written once, with their count behind (`0*516`).
-use crate::lines::first;
-use crate::lines::read;
 use engine::state::Outcome;
 use engine::state::run;
 ghost use Prim.Native.Nat.{_<_, _≤_};
@@ -51,19 +49,7 @@ fn put_area(area: &[u32]) {
     }
 }
 
-// The numbers of an area from one place to before another.
-pub(crate) fn put_some(area: &[u32], from: usize, to: usize) {
-    io::write_all(OUT, b" |");
-    let mut i = from;
-    while i < to {
-        if i < area.len() {
-            put_number(area[i]);
-        }
-        i += 1;
-    }
-}
-
-pub(crate) fn put_outcome(name: &[u8], o: Outcome) {
+fn put_outcome(name: &[u8], o: Outcome) {
     io::write_all(OUT, name);
     io::write_all(OUT, b":");
     put_number(o.number);
@@ -71,7 +57,7 @@ pub(crate) fn put_outcome(name: &[u8], o: Outcome) {
     put_number(o.count);
 }
 
-pub(crate) fn end_line() {
+fn end_line() {
     io::write_all(OUT, b"\n");
 }
 
@@ -92,72 +78,4 @@ pub(crate) fn put_run<'a>(
     put_area(tokens);
     put_area(report);
     end_line();
-}
-
-// The same from written lines, at most 40.
-pub(crate) fn lent<'a>(
-    name: &[u8],
-    lines: &[u8],
-    literals: &'a [u8],
-    text: &'a [u8],
-    depth: u32,
-    calls: u32,
-    tokens: &mut [u32],
-    report: &mut [u32],
-    scratch: &mut [u32],
-) {
-    let mut nodes = [0i32; 160];
-    let n = read(&mut nodes, 0, lines);
-    put_run(
-        name,
-        first(&nodes, n),
-        literals,
-        text,
-        depth,
-        calls,
-        tokens,
-        report,
-        scratch,
-    );
-}
-
-// Written lines in areas full of nines: tokens with two numbers more than two tokens take, a report with one more than is asked for.
-pub(crate) fn limited(name: &[u8], lines: &[u8], text: &[u8], depth: u32, calls: u32) {
-    let mut tokens = [9u32; 12];
-    let mut report = [9u32; 516];
-    let mut scratch = [9u32; 4864];
-    lent(
-        name,
-        lines,
-        b"abc",
-        text,
-        depth,
-        calls,
-        &mut tokens,
-        &mut report,
-        &mut scratch,
-    );
-}
-
-// The same with no call limit, at the largest depth limit.
-pub(crate) fn case(name: &[u8], lines: &[u8], text: &[u8]) {
-    limited(name, lines, text, 1024, 0);
-}
-
-// The same from nodes.
-pub(crate) fn built(name: &[u8], nodes: &[i32], text: &[u8]) {
-    let mut tokens = [9u32; 12];
-    let mut report = [9u32; 516];
-    let mut scratch = [9u32; 4864];
-    put_run(
-        name,
-        nodes,
-        b"abc",
-        text,
-        1024,
-        0,
-        &mut tokens,
-        &mut report,
-        &mut scratch,
-    );
 }

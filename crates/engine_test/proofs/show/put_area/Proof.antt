@@ -1,7 +1,6 @@
 -- Each turn goes on by one place or to the end of equal numbers: the measure is the places left.
 use Prim.Native.Nat.{_-_, _≤_}
 use lib.ListN.{length}
-use native.Mathlib.Omega.{arith}
 use borrow.Author.Needs.{needs}
 use Rattle.engine_test.proofs.show.put_area.Statement.{statement}
 use Rattle.engine_test.proofs.show.put_area.Tie as tie

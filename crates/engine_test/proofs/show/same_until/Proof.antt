@@ -1,7 +1,6 @@
 -- The answer lies behind the place it was asked for, and within the area.
 use Prim.Native.Nat.{_-_, _≤_, _<_}
 use lib.ListN.{length}
-use native.Mathlib.Omega.{arith}
 use borrow.Author.Needs.{needs}
 use Rattle.engine_test.proofs.show.same_until.Statement.{statement}
 use Rattle.engine_test.proofs.show.same_until.Tie as tie

@@ -5,14 +5,14 @@ use native.Mathlib.Nat.{mod-lt}
 use lib.ListN.{length, length-set}
 use native.Mathlib.Omega.{arith}
 use borrow.Author.Needs.{needs}
-use Rattle.engine_test.proofs.lines.fill.Statement.{statement}
-use Rattle.engine_test.proofs.lines.fill.Tie as tie
+use Rattle.engine_test.proofs.case.fill.Statement.{statement}
+use Rattle.engine_test.proofs.case.fill.Tie as tie
 
 abbrev Inv-loop : tie.InvT-loop
-Inv-loop text₀ from letters i₀ text i = (length text ≡ length text₀) × (0 < length letters)
+Inv-loop text₀ letters i₀ text i = (length text ≡ length text₀) × (0 < length letters)
 
 abbrev μ-loop : tie.MeasureT-loop
-μ-loop text₀ from letters i₀ text i = length text - i
+μ-loop text₀ letters i₀ text i = length text - i
 
 returns : tie.Need-returns Inv-loop μ-loop
 returns c = search needs

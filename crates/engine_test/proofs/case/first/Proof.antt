@@ -1,10 +1,10 @@
--- So many numbers are lent as were asked for, since they are there.
+-- So many are lent as were asked for, since they are there.
 use mathlib.Core.Path.{sym}
-use native.Mathlib.Omega.{arith}
 use lib.Seq.{length-take-le}
+use native.Mathlib.Omega.{arith}
 use borrow.Author.Needs.{needs}
-use Rattle.engine_test.proofs.lines.first.Statement.{statement}
-use Rattle.engine_test.proofs.lines.first.Tie as tie
+use Rattle.engine_test.proofs.case.first.Statement.{statement}
+use Rattle.engine_test.proofs.case.first.Tie as tie
 
 slice-aggregate-result : tie.Need-slice-aggregate-result
 slice-aggregate-result c = sym (length-take-le (c .before .before .args .n) (c .before .before .args .nodes .now) (omega arith))
