@@ -48,11 +48,11 @@ ghost use Rattle.engine.specs.Evaluation.{Ready, Line, evaluated, opens-
 pub struct ParserState {
     pub position: BytePosition,
     pub queue: TokenIndex,
-    pub lookahead: Lookahead,
-    pub atomicity: Atomicity,
     pub attempts: Attempts,
     pub stack: Stack,
     pub tracker: CallLimitTracker,
+    pub lookahead: Lookahead,
+    pub atomicity: Atomicity,
 }
 
 // "Evaluation ends Ok, Err, or in a stop that names its cause."

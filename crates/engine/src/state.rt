@@ -37,8 +37,6 @@ fn new(call_limit: u32) -> ParserState
     ParserState {
         position: BytePosition(0),
         queue: TokenIndex(0),
-        lookahead: Lookahead::None,
-        atomicity: Atomicity::NonAtomic,
         attempts: Attempts {
             furthest: BytePosition(0),
             positives: 0,
@@ -54,6 +52,8 @@ fn new(call_limit: u32) -> ParserState
             limit: call_limit,
             reached: LimitReached::No,
         },
+        lookahead: Lookahead::None,
+        atomicity: Atomicity::NonAtomic,
     }
 }
 
