@@ -30,3 +30,4 @@ pub mod LineSteps
 pub mod TerminalSteps
 pub mod Walks
 pub mod RunLaws
+pub mod Demands
