@@ -159,11 +159,11 @@ module _ (ns : List ℤ) (literals text : List ℕ) (capacity d : ℕ) (k : Fork
   rise-stop top zero c = refl
   rise-stop top (suc i) c = ap (rise top i) (step-stop (spine-line ns top i) c) ∙ rise-stop top i c
 
-  step-of : (l : ℕ) (n : Line) (x : Ending ParserState) → n ≡ line-of (node-at ns l) → onto (at-line (n .b)) (going (n .kind) x) ≡ step l x
+  pub step-of : (l : ℕ) (n : Line) (x : Ending ParserState) → n ≡ line-of (node-at ns l) → onto (at-line (n .b)) (going (n .kind) x) ≡ step l x
   unfolding step
   step-of l n x e = ap (λ (m : Line). onto (at-line (m .b)) (going (m .kind) x)) e
 
-  fork-eval : (l : ℕ) (m : ParserState) → 1 ≤ l → l ≤ line-count ns → Fork (kind-at ns l) → step l (at-line (left-of ns l) m) ≡ at-line l m
+  pub fork-eval : (l : ℕ) (m : ParserState) → 1 ≤ l → l ≤ line-count ns → Fork (kind-at ns l) → step l (at-line (left-of ns l) m) ≡ at-line l m
   unfolding step
   fork-eval l m lo hi (inl e) =
       going-and (at-line (right-of ns l)) (kind-at ns l) e (at-line (left-of ns l) m) ∙ sym (ap (λ (x : Exp). evaluated ns literals text capacity d x m) (k .and-tree l lo hi e) ∙ eval-and (tree-at ns literals (left-of ns l)) (tree-at ns literals (right-of ns l)) m)

@@ -29,5 +29,6 @@ pub mod Turns
 pub mod LineSteps
 pub mod TerminalSteps
 pub mod Walks
+pub mod LeafSteps
 pub mod RunLaws
 pub mod Demands

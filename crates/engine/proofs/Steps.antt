@@ -194,11 +194,14 @@ module _ (ns : List ℤ) (literals text : List ℕ) (capacity : ℕ) where
   mark-of tokens scratch d s r h = (state-of tokens scratch d s r, omega (arith, r .deep, pairs-length Areas.checkpoint scratch 2816 (s .stack .checkpoints)))
 
   -- ── After the body ──
+  pub kept-by : Accepted ns literals → (d l : ℕ) (m : ParserState) (x : Ending ParserState) → Fit g m → x ≡ E d (tree-at ns literals l) m → LeftFrom g m x
+  unfolding evaluated
+  kept-by w d l m x f e =
+      left-of x (subst (KeepsFrom g (still (rule-still ns) (tree-at ns literals l)) m) (sym e) (eval-keeps g (rule-still ns) (tested-of ns literals text capacity w) d (tree-at ns literals l) (tree-literals ns literals w l) (tree-steady ns literals w (rule-still ns) (rule-still-is ns) l) m f))
+
   pub kept : (tokens scratch : List ℕ) (d l : ℕ) (m : ParserState) (x : Ending ParserState) → R tokens scratch d m → x ≡ E d (tree-at ns literals l) m
       → LeftFrom g m x
-  unfolding evaluated
-  kept tokens scratch d l m x r e =
-      left-of x (subst (KeepsFrom g (still (rule-still ns) (tree-at ns literals l)) m) (sym e) (eval-keeps g (rule-still ns) (tested-of ns literals text capacity (tests r)) d (tree-at ns literals l) (tree-literals ns literals (tests r) l) (tree-steady ns literals (tests r) (rule-still ns) (rule-still-is ns) l) m (r .fit)))
+  kept tokens scratch d l m x r e = kept-by (tests r) d l m x (r .fit) e
 
   -- A line that may not stand still moves on Ok.
   pub moves-on : (tokens scratch : List ℕ) (d l : ℕ) (m v : ParserState) → R tokens scratch d m → Line ns l → nullable ns l ≡ false → Ok v ≡ E d (tree-at ns literals l) m → m .position < v .position

@@ -9,6 +9,7 @@ pub mod Attempts
 pub mod Report
 pub mod Evaluation
 pub mod Spine
+pub mod Leaves
 pub mod Refusals
 pub mod StackMatch
 pub mod Rule

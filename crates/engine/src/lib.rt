@@ -6,6 +6,7 @@ mod conclude;
 mod endings;
 mod entry;
 mod grammar;
+mod leaves;
 mod node;
 mod nullable;
 mod parser_state;

@@ -12,6 +12,7 @@ use crate::endings::rule_end;
 use crate::endings::sequence_end;
 use crate::entry::Entry;
 use crate::entry::enter;
+use crate::leaves::walk;
 use crate::node::ends_at;
 use crate::node::line_at;
 use crate::rule::start_rule;
@@ -19,6 +20,7 @@ use crate::rule::tag_node;
 use crate::spine::descend;
 use crate::spine::ended;
 use crate::spine::goes_right;
+use crate::spine::rebuilt;
 use crate::spine::spine_at;
 use crate::stack::Stack;
 use crate::stack_state::checkpoint;
@@ -164,10 +166,18 @@ pub(crate) fn node<'a>(
     let mut at = line;
     let mut now = s;
     loop {
+        let p = now.position;
+        let w = walk(nodes, literals, text, at, p);
+        let q = w.position;
+        now.position = q;
+        if w.done {
+            return ended(w.good, now);
+        }
+        at = w.line;
         let low = descend(nodes, at);
         let count = low.count;
         if count == 0 {
-            return simple(
+            let r = simple(
                 nodes,
                 literals,
                 text,
@@ -178,9 +188,10 @@ pub(crate) fn node<'a>(
                 at,
                 now,
             );
+            return rebuilt(r);
         }
         let mut good = true;
-        match simple(
+        let r = simple(
             nodes,
             literals,
             text,
@@ -190,7 +201,8 @@ pub(crate) fn node<'a>(
             depth,
             low.line,
             now,
-        ) {
+        );
+        match rebuilt(r) {
             Ending::Ok(t) => {
                 now = t;
             }
@@ -208,7 +220,7 @@ pub(crate) fn node<'a>(
             let l = spine_at(nodes, at, i);
             let n = line_at(nodes, l);
             if goes_right(n.kind, good) {
-                match node(
+                let r = node(
                     nodes,
                     literals,
                     text,
@@ -218,7 +230,8 @@ pub(crate) fn node<'a>(
                     depth,
                     n.b,
                     now,
-                ) {
+                );
+                match rebuilt(r) {
                     Ending::Ok(t) => {
                         now = t;
                         good = true;

@@ -58,8 +58,25 @@ pub(crate) fn goes_right(kind: usize, good: bool) -> bool
     if kind == 6 { good } else { !good }
 }
 
+// The state goes over field by field: copied whole it would be read in pieces that span what was just written in others, and wait.
 pub(crate) fn ended(good: bool, s: ParserState) -> Ending
     ensures { λ r. ⌜ r ≡ ending-of good s ⌝ }
 {
-    if good { Ending::Ok(s) } else { Ending::Err(s) }
+    let p = s.position;
+    if good {
+        Ending::Ok(ParserState { position: p, ..s })
+    } else {
+        Ending::Err(ParserState { position: p, ..s })
+    }
+}
+
+// The same ending, its state copied field by field.
+pub(crate) fn rebuilt(r: Ending) -> Ending
+    ensures { λ e. ⌜ e ≡ r ⌝ }
+{
+    match r {
+        Ending::Ok(t) => ended(true, t),
+        Ending::Err(t) => ended(false, t),
+        Ending::Stop(_) => r,
+    }
 }

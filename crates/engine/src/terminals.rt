@@ -2,20 +2,44 @@
 use crate::parser_state::Ending;
 use crate::parser_state::ParserState;
 use crate::stack_state::moved;
+use matching::position::BytePosition;
+use matching::position::Matched;
 use matching::position::at_end;
 use matching::position::match_insensitive;
 use matching::position::match_range;
 use matching::position::match_string;
 ghost use mathlib.Core.Path.{_≡_};
 ghost use mathlib.Core.List.{List};
+ghost use mathlib.Core.Option.{none, some};
 ghost use Prim.Native.Nat.{ℕ, _+_, _≤_};
 ghost use lib.ListN.{length, take, drop};
 ghost use Rattle.matching.specs.Position as Position;
 ghost use Rattle.reading.specs.Ending.{if_then_else_, Ok, Err};
 ghost use Rattle.reading.specs.Pest as Pest;
 ghost use Rattle.engine.specs.Areas.{view, view-end};
+ghost use Rattle.engine.specs.StackMatch.{match-of};
 
-// Kinds 1 and 2: `size` bytes from `offset` on of the literal text.
+// Kinds 1 and 2: whether `size` bytes from `offset` on of the literal text stand at p, and where they end.
+pub(crate) fn match_literal<'a>(
+    literals: &'a [u8],
+    text: &'a [u8],
+    offset: usize,
+    size: usize,
+    insensitive: bool,
+    p: BytePosition,
+) -> Matched
+    requires { ⌜ offset + size ≤ length (now literals) ⌝ }
+    ensures { λ r. ⌜ ((m : Pest.ParserState) → Pest.moved (match-of r) m ≡ Pest.moved (if insensitive then Position.match-insensitive (now (text .entry)) (take size (drop offset (now (literals .entry)))) (p .0) else Position.match-string (now (text .entry)) (take size (drop offset (now (literals .entry)))) (p .0)) m) ⌝ }
+{
+    let end = offset + size;
+    let string = &literals[offset..end];
+    if insensitive {
+        match_insensitive(text, p, string)
+    } else {
+        match_string(text, p, string)
+    }
+}
+
 pub(crate) fn literal<'a>(
     literals: &'a [u8],
     text: &'a [u8],
@@ -28,13 +52,8 @@ pub(crate) fn literal<'a>(
     ensures { λ r. ⌜ ((tokens scratch : List ℕ) → view-end tokens scratch r ≡ Pest.moved (if insensitive then Position.match-insensitive (now (text .entry)) (take size (drop offset (now (literals .entry)))) (s .position .0) else Position.match-string (now (text .entry)) (take size (drop offset (now (literals .entry)))) (s .position .0)) (view tokens scratch s)) ⌝ }
 {
     let p = s.position;
-    let end = offset + size;
-    let string = &literals[offset..end];
-    if insensitive {
-        moved(match_insensitive(text, p, string), s)
-    } else {
-        moved(match_string(text, p, string), s)
-    }
+    let m = match_literal(literals, text, offset, size, insensitive, p);
+    moved(m, s)
 }
 
 // Kind 3.
@@ -62,5 +81,16 @@ pub(crate) fn end_of_input(text: &[u8], s: ParserState) -> Ending
         Ending::Ok(s)
     } else {
         Ending::Err(s)
+    }
+}
+
+// Kind 5, of the position alone: a match of no bytes at the end.
+pub(crate) fn match_end(text: &[u8], p: BytePosition) -> Matched
+    ensures { λ r. ⌜ match-of r ≡ (if Position.at-end (now (text .entry)) (p .0) then some (p .0) else none) ⌝ }
+{
+    if at_end(text, p) {
+        Matched::At(p)
+    } else {
+        Matched::Failed
     }
 }

@@ -51,7 +51,9 @@ use Rattle.engine.proofs.parser_state.terminal.Reads as terminal-reads
 use Rattle.engine.proofs.node.line_at.Reads as line-at-reads
 use Rattle.engine.proofs.rule.start_rule.Reads as start-rule-reads
 use Rattle.engine.proofs.spine.descend.Reads as descend-reads
+use Rattle.engine.proofs.leaves.walk.Reads as walk-reads
 use Rattle.engine.proofs.spine.ended.Reads as ended-reads
+use Rattle.engine.proofs.spine.rebuilt.Reads as rebuilt-reads
 use Rattle.engine.proofs.spine.goes_right.Reads as goes-right-reads
 use Rattle.engine.proofs.spine.spine_at.Reads as spine-at-reads
 use Rattle.engine.proofs.stack_state.checkpoint.Reads as checkpoint-reads
@@ -178,7 +180,7 @@ abbrev pub lookahead-calls : ℕ → lookahead-lts.Claims
 lookahead-calls t = (enter-reads.Asked, enter-reads.Learnt, lookahead-in-reads.Asked, lookahead-in-reads.Learnt, checkpoint-reads.Asked, checkpoint-reads.Learnt, node-below t, node.Post, lookahead-end-reads.Asked, lookahead-end-reads.Learnt)
 
 abbrev pub node-calls : ℕ → node-lts.Claims
-node-calls t = (descend-reads.Asked, descend-reads.Learnt, simple-below t, simple.Post, spine-at-reads.Asked, spine-at-reads.Learnt, line-at-reads.Asked, line-at-reads.Learnt, goes-right-reads.Asked, goes-right-reads.Learnt, node-below t, node.Post, ended-reads.Asked, ended-reads.Learnt)
+node-calls t = (walk-reads.Asked, walk-reads.Learnt, ended-reads.Asked, ended-reads.Learnt, descend-reads.Asked, descend-reads.Learnt, simple-below t, simple.Post, rebuilt-reads.Asked, rebuilt-reads.Learnt, spine-at-reads.Asked, spine-at-reads.Learnt, line-at-reads.Asked, line-at-reads.Learnt, goes-right-reads.Asked, goes-right-reads.Learnt, node-below t, node.Post)
 
 abbrev pub opened-calls : ℕ → opened-lts.Claims
 opened-calls t = (line-at-reads.Asked, line-at-reads.Learnt, rule-below t, rule.Post, sequence-below t, sequence.Post, repeat-below t, repeat.Post, optional-below t, optional.Post, lookahead-below t, lookahead.Post, atomicity-of-reads.Asked, atomicity-of-reads.Learnt, atomic-below t, atomic.Post, stack-push-below t, stack-push.Post, restore-on-err-below t, restore-on-err.Post)

@@ -1,0 +1,123 @@
+-- The invariant: from the line and the position so far, the evaluation comes to what it comes to from the first line.
+use mathlib.Core.Path.{_≡_, refl, sym, _∙_}
+use mathlib.Core.Logic.{inl, inr, ⊎-elim}
+use mathlib.Core.Bool.{true≢false, false≢true}
+use Prim.Native.Nat.{ℕ, _≤_}
+use native.Mathlib.Omega.{arith}
+use borrow.Author.Needs.{needs}
+use Rattle.reading.specs.Fit.{Fit}
+use Rattle.reading.specs.Pest.{ParserState, set-position}
+use Rattle.reading.proofs.Accepted.{accepted}
+use Rattle.engine.specs.Evaluation.{setting-of, Line}
+use Rattle.engine.specs.Leaves.{Onto}
+use Rattle.engine.specs.Spine.{Fork}
+use Rattle.engine.proofs.LineSteps.{whole}
+use Rattle.engine.proofs.LeafSteps.{kind-low, first-onto, last-ok, last-err, right-in, left-line, right-line, on-right, over-right, done-ok, done-err, walked-on}
+use Rattle.engine.proofs.leaves.walk.Statement.{statement}
+use Rattle.engine.proofs.leaves.walk.Tie as tie
+use Rattle.engine.proofs.leaves.walk.Reads as reads
+use Rattle.engine.proofs.leaves.walk.Lts as lts
+use Rattle.engine.proofs.leaves.last.Reads as last-reads
+use Rattle.engine.proofs.leaves.leaf.Reads as leaf-reads
+use Rattle.engine.proofs.node.line_at.Reads as line-at-reads
+
+abbrev Inv-loop : tie.InvT-loop
+Inv-loop nodes literals text line at₀ position₀ at position =
+    Line nodes at × ((capacity d : ℕ) (m : ParserState) → Fit (setting-of nodes literals text capacity) m → m .position ≡ position₀ .0 → Onto nodes literals text capacity d line m at (position .0))
+
+abbrev μ-loop : tie.MeasureT-loop
+μ-loop nodes literals text line at₀ position₀ at position = at
+
+loop-holds : tie.Need-loop-holds Inv-loop μ-loop
+loop-holds c = let S = c .before .before in (S .pre .1, λ capacity d m f x. first-onto _ _ _ capacity d _ m _ (S .pre .1) f x)
+
+line-at-requires : tie.Need-line-at-requires Inv-loop μ-loop
+line-at-requires c κs = let S = c .before .before .before in whole _ _ (accepted _ _ (S .pre .0 .0) (S .pre .0 .1)) _ (c .loop .inv .0)
+
+last-requires : tie.Need-last-requires Inv-loop μ-loop
+last-requires c κs = let S = c .before .before .before .before .before .before in (S .pre .0, c .before .before .before .loop .inv .0)
+
+returns : tie.Need-returns Inv-loop μ-loop
+returns c = let L = c .before .before .before .before in λ capacity d m f x. walked-on _ _ _ capacity d _ m _ _ (L .loop .inv .1 capacity d m f x) _ (c .last .ensures capacity d (set-position (L .loop .position .0) m) (L .loop .inv .1 capacity d m f x .fit) refl)
+
+line-at-requires-2 : tie.Need-line-at-requires-2 Inv-loop μ-loop
+line-at-requires-2 c κs =
+    let S = c .before .before .before .before .before in let L = c .before .before in let w = accepted _ _ (S .pre .0 .0) (S .pre .0 .1) in let n = c .before .line-at .ensures in
+    let F = ⊎-elim (λ v. inr (v .1 .left)) (λ v. inl (v .left)) (c .if1 .came) in
+    whole _ _ w _ (left-line _ _ w _ (L .loop .inv .0) _ n F)
+
+returns-2 : tie.Need-returns-2 Inv-loop μ-loop
+returns-2 c =
+    λ capacity d m f x. record { going = λ _. c .before .before .before .before .before .loop .inv .1 capacity d m f x; ended = λ h. absurd (false≢true h) }
+
+leaf-requires : tie.Need-leaf-requires Inv-loop μ-loop
+leaf-requires c κs =
+    let S = c .before .before .before .before .before .before .before .before in let L = c .before .before .before .before .before in let w = accepted _ _ (S .pre .0 .0) (S .pre .0 .1) in let n = c .before .before .before .before .line-at .ensures in
+    let F = ⊎-elim (λ v. inr (v .1 .left)) (λ v. inl (v .left)) (c .before .before .before .if1 .came) in
+    (S .pre .0, (left-line _ _ w _ (L .loop .inv .0) _ n F, kind-low _ _ _ (c .before .before .line-at2 .ensures) (omega (arith, c .if3 .left))))
+
+enum-known-q : tie.Need-enum-known-q Inv-loop μ-loop
+enum-known-q c =
+    search needs
+
+returns-3 : tie.Need-returns-3 Inv-loop μ-loop
+returns-3 c =
+    let S = c .before .before .before .before .before .before .before .before .before .before .before .before .before in let L = c .before .before .before .before .before .before .before .before .before .before in let w = accepted _ _ (S .pre .0 .0) (S .pre .0 .1) in let n = c .before .before .before .before .before .before .before .before .before .line-at .ensures in
+    let F = ⊎-elim (λ v. inr (v .1 .left)) (λ v. inl (v .left)) (c .before .before .before .before .before .before .before .before .if1 .came) in
+    λ capacity d m f x. let o = L .loop .inv .1 capacity d m f x in record { going = λ h. absurd (true≢false h); ended = λ _. done-ok _ _ w _ (L .loop .inv .0) _ n F _ capacity d _ m _ o (λ k. omega (arith, k, c .if4 .taken)) _ (last-ok _ (set-position (L .loop .position .0) m) _ _ (c .before .before .before .before .leaf .ensures capacity d (set-position (L .loop .position .0) m) (o .fit) refl) (c .before .before .q .given .1)) }
+
+enum-told : tie.Need-enum-told Inv-loop μ-loop
+enum-told c =
+    search needs
+
+returns-4 : tie.Need-returns-4 Inv-loop μ-loop
+returns-4 c =
+    let S = c .before .before .before .before .before .before .before .before .before .before .before .before in let L = c .before .before .before .before .before .before .before .before .before in let w = accepted _ _ (S .pre .0 .0) (S .pre .0 .1) in let n = c .before .before .before .before .before .before .before .before .line-at .ensures in
+    let F = ⊎-elim (λ v. inr (v .1 .left)) (λ v. inl (v .left)) (c .before .before .before .before .before .before .before .if1 .came) in
+    λ capacity d m f x. let o = L .loop .inv .1 capacity d m f x in record { going = λ h. absurd (true≢false h); ended = λ _. done-err _ _ w _ (L .loop .inv .0) _ n F _ capacity d _ m _ o (c .if5 .taken) (last-err _ (set-position (L .loop .position .0) m) _ _ refl (c .before .before .before .leaf .ensures capacity d (set-position (L .loop .position .0) m) (o .fit) refl) (c .before .enum-told .given .1)) }
+
+loop-less : tie.Need-loop-less Inv-loop μ-loop
+loop-less c =
+    let S = c .before .before .before .before .before .before .before .before .before .before .before .before .before in let L = c .before .before .before .before .before .before .before .before .before .before in let w = accepted _ _ (S .pre .0 .0) (S .pre .0 .1) in let n = c .before .before .before .before .before .before .before .before .before .line-at .ensures in
+    let F = ⊎-elim (λ v. inr (v .1 .left)) (λ v. inl (v .left)) (c .before .before .before .before .before .before .before .before .if1 .came) in
+    right-in _ _ w _ (L .loop .inv .0) _ n F .1
+
+loop-again : tie.Need-loop-again Inv-loop μ-loop
+loop-again c =
+    let S = c .before .before .before .before .before .before .before .before .before .before .before .before .before in let L = c .before .before .before .before .before .before .before .before .before .before in let w = accepted _ _ (S .pre .0 .0) (S .pre .0 .1) in let n = c .before .before .before .before .before .before .before .before .before .line-at .ensures in
+    let F = ⊎-elim (λ v. inr (v .1 .left)) (λ v. inl (v .left)) (c .before .before .before .before .before .before .before .before .if1 .came) in
+    (right-line _ _ w _ (L .loop .inv .0) _ n F, λ capacity d m f x. let o = L .loop .inv .1 capacity d m f x in on-right _ _ w _ (L .loop .inv .0) _ n F _ capacity d _ m _ o (⊎-elim (λ k. k) (λ k. absurd (c .if4 .left k)) F) _ (last-ok _ (set-position (L .loop .position .0) m) _ _ (c .before .before .before .before .leaf .ensures capacity d (set-position (L .loop .position .0) m) (o .fit) refl) (c .before .before .q .given .1)))
+
+loop-less-2 : tie.Need-loop-less-2 Inv-loop μ-loop
+loop-less-2 c =
+    let S = c .before .before .before .before .before .before .before .before .before .before .before .before in let L = c .before .before .before .before .before .before .before .before .before in let w = accepted _ _ (S .pre .0 .0) (S .pre .0 .1) in let n = c .before .before .before .before .before .before .before .before .line-at .ensures in
+    let F = ⊎-elim (λ v. inr (v .1 .left)) (λ v. inl (v .left)) (c .before .before .before .before .before .before .before .if1 .came) in
+    right-in _ _ w _ (L .loop .inv .0) _ n F .1
+
+loop-again-2 : tie.Need-loop-again-2 Inv-loop μ-loop
+loop-again-2 c =
+    let S = c .before .before .before .before .before .before .before .before .before .before .before .before in let L = c .before .before .before .before .before .before .before .before .before in let w = accepted _ _ (S .pre .0 .0) (S .pre .0 .1) in let n = c .before .before .before .before .before .before .before .before .line-at .ensures in
+    let F = ⊎-elim (λ v. inr (v .1 .left)) (λ v. inl (v .left)) (c .before .before .before .before .before .before .before .if1 .came) in
+    (right-line _ _ w _ (L .loop .inv .0) _ n F, λ capacity d m f x. let o = L .loop .inv .1 capacity d m f x in over-right _ _ w _ (L .loop .inv .0) _ n F _ capacity d _ m _ o (c .if5 .left) (last-err _ (set-position (L .loop .position .0) m) _ _ refl (c .before .before .before .leaf .ensures capacity d (set-position (L .loop .position .0) m) (o .fit) refl) (c .before .enum-told .given .1)))
+
+pub walk-spec : {M : Type 1} → statement M
+walk-spec =
+    tie.close
+    (tie.spec
+    Inv-loop
+    μ-loop
+    loop-holds
+    line-at-requires
+    last-requires
+    returns
+    line-at-requires-2
+    returns-2
+    leaf-requires
+    enum-known-q
+    returns-3
+    enum-told
+    returns-4
+    loop-less
+    loop-again
+    loop-less-2
+    loop-again-2)
