@@ -202,7 +202,8 @@ pub(crate) fn node<'a>(
             low.line,
             now,
         );
-        match rebuilt(r) {
+        let e = rebuilt(r);
+        match e {
             Ending::Ok(t) => {
                 now = t;
             }
@@ -210,8 +211,8 @@ pub(crate) fn node<'a>(
                 now = t;
                 good = false;
             }
-            Ending::Stop(c) => {
-                return Ending::Stop(c);
+            Ending::Stop(_) => {
+                return e;
             }
         }
         let mut i = count;
@@ -231,7 +232,8 @@ pub(crate) fn node<'a>(
                     n.b,
                     now,
                 );
-                match rebuilt(r) {
+                let f = rebuilt(r);
+                match f {
                     Ending::Ok(t) => {
                         now = t;
                         good = true;
@@ -240,8 +242,8 @@ pub(crate) fn node<'a>(
                         now = t;
                         good = false;
                     }
-                    Ending::Stop(c) => {
-                        return Ending::Stop(c);
+                    Ending::Stop(_) => {
+                        return f;
                     }
                 }
             }

@@ -139,33 +139,33 @@ module _ (t : ℕ) where
   rebuilt-requires-2 : node-lts.Need-rebuilt-requires-2 (node-calls t) (node-at t) node.Post Inv-loop2 μ-loop2 Inv-loop μ-loop
   rebuilt-requires-2 c κs = tt
 
-  enum-known-t : node-lts.Need-enum-known-t (node-calls t) (node-at t) node.Post Inv-loop2 μ-loop2 Inv-loop μ-loop
-  enum-known-t c = search needs
+  enum-known-e : node-lts.Need-enum-known-e (node-calls t) (node-at t) node.Post Inv-loop2 μ-loop2 Inv-loop μ-loop
+  enum-known-e c = search needs
 
-  enum-known-t-2 : node-lts.Need-enum-known-t-2 (node-calls t) (node-at t) node.Post Inv-loop2 μ-loop2 Inv-loop μ-loop
-  enum-known-t-2 c = search needs
+  enum-known-e-2 : node-lts.Need-enum-known-e-2 (node-calls t) (node-at t) node.Post Inv-loop2 μ-loop2 Inv-loop μ-loop
+  enum-known-e-2 c = search needs
 
-  enum-known-c : node-lts.Need-enum-known-c (node-calls t) (node-at t) node.Post Inv-loop2 μ-loop2 Inv-loop μ-loop
-  enum-known-c c = search needs
+  enum-told : node-lts.Need-enum-told (node-calls t) (node-at t) node.Post Inv-loop2 μ-loop2 Inv-loop μ-loop
+  enum-told c = search needs
 
   same-length-5 : node-lts.Need-same-length-5 (node-calls t) (node-at t) node.Post Inv-loop2 μ-loop2 Inv-loop μ-loop
   same-length-5 c =
-      let at-else = c .before .before .before .before .before .before .before .before .before .before .before .before .before in
-      let at-simple2 = c .before .before .before .before .before .before .before .before in
+      let at-else = c .before .before .before .before .before .before .before .before .before .before .before .before in
+      let at-simple2 = c .before .before .before .before .before .before .before in
       at-simple2 .simple2 .kept .1 .1 .1 .0 ∙ on at-else .tokens-same
 
   same-length-6 : node-lts.Need-same-length-6 (node-calls t) (node-at t) node.Post Inv-loop2 μ-loop2 Inv-loop μ-loop
   same-length-6 c =
-      let at-else = c .before .before .before .before .before .before .before .before .before .before .before .before .before in
-      let at-simple2 = c .before .before .before .before .before .before .before .before in
+      let at-else = c .before .before .before .before .before .before .before .before .before .before .before .before in
+      let at-simple2 = c .before .before .before .before .before .before .before in
       at-simple2 .simple2 .kept .1 .1 .1 .1 .0 ∙ on at-else .scratch-same
 
   returns-3 : node-lts.Need-returns-3 (node-calls t) (node-at t) node.Post Inv-loop2 μ-loop2 Inv-loop μ-loop
   returns-3 c =
-      let at-else = c .before .before .before .before .before .before .before .before .before .before .before .before .before in
-      let at-simple2 = c .before .before .before .before .before .before .before .before in
-      let at-descend = c .before .before .before .before .before .before .before .before .before .before .before .before in
-      low-stop _ _ _ _ _ _ _ _ _ (on at-else .ready) (on at-else .here) _ (at-descend .descend .ensures) _ (told _ _ _ _ _ (ap (view-end (at-simple2 .simple2 .last .1 .1 .1 .0) (at-simple2 .simple2 .last .1 .1 .1 .1 .0)) (c .before .before .before .rebuilt2 .ensures) ∙ at-simple2 .simple2 .ensures) (c .before .c .given .1)) ∙ on at-else .runs
+      let at-else = c .before .before .before .before .before .before .before .before .before .before .before .before in
+      let at-simple2 = c .before .before .before .before .before .before .before in
+      let at-descend = c .before .before .before .before .before .before .before .before .before .before .before in
+      ap (view-end (at-simple2 .simple2 .last .1 .1 .1 .0) (at-simple2 .simple2 .last .1 .1 .1 .1 .0)) (c .enum-told .given .1) ∙ low-stop _ _ _ _ _ _ _ _ _ (on at-else .ready) (on at-else .here) _ (at-descend .descend .ensures) _ (told _ _ _ _ _ (ap (view-end (at-simple2 .simple2 .last .1 .1 .1 .0) (at-simple2 .simple2 .last .1 .1 .1 .1 .0)) (c .before .before .rebuilt2 .ensures) ∙ at-simple2 .simple2 .ensures) (c .enum-told .given .1)) ∙ on at-else .runs
 
   loop2-holds : node-lts.Need-loop2-holds (node-calls t) (node-at t) node.Post Inv-loop2 μ-loop2 Inv-loop μ-loop
   loop2-holds c =
@@ -212,8 +212,8 @@ module _ (t : ℕ) where
   rebuilt-requires-3 : node-lts.Need-rebuilt-requires-3 (node-calls t) (node-at t) node.Post Inv-loop2 μ-loop2 Inv-loop μ-loop
   rebuilt-requires-3 c κs = tt
 
-  enum-known-t-3 : node-lts.Need-enum-known-t-3 (node-calls t) (node-at t) node.Post Inv-loop2 μ-loop2 Inv-loop μ-loop
-  enum-known-t-3 c = search needs
+  enum-known-f : node-lts.Need-enum-known-f (node-calls t) (node-at t) node.Post Inv-loop2 μ-loop2 Inv-loop μ-loop
+  enum-known-f c = search needs
 
   loop2-less : node-lts.Need-loop2-less (node-calls t) (node-at t) node.Post Inv-loop2 μ-loop2 Inv-loop μ-loop
   loop2-less c =
@@ -233,10 +233,10 @@ module _ (t : ℕ) where
       let at-match = c .before .before .before .before .before .before .before .before .before .before .before .before .before .before .before .before .before in
       let at-simple2 = c .before .before .before .before .before .before .before .before .before .before .before .before .before .before .before .before .before .before .before .before .before .before .before in
       let at-descend = c .before .before .before .before .before .before .before .before .before .before .before .before .before .before .before .before .before .before .before .before .before .before .before .before .before .before .before in
-      climb-go _ _ _ _ _ _ _ _ _ (on at-else .ready) (on at-else .here) _ (at-descend .descend .ensures) _ _ _ (left-ends at-match) _ _ _ _ (at-loop2 .loop2 .inv) (at-simple2 .simple2 .kept .1 .1 .1 .0) (at-simple2 .simple2 .kept .1 .1 .1 .1 .0) (at-loop2-test .loop2-test .taken) _ (at-spine-at .spine-at .ensures) _ (at-line-at .line-at .ensures) _ (goes-yes (at-loop2 .loop2 .tokens) (at-loop2 .loop2 .scratch) (at-loop2 .loop2 .now) _ _ _ (at-goes-right .goes-right .ensures) (at-if3 .if3 .taken)) _ _ _ (told-ok (at-node .node .last .1 .1 .1 .0) (at-node .node .last .1 .1 .1 .1 .0) (c .before .before .before .rebuilt3 .result) _ (ap (view-end (at-node .node .last .1 .1 .1 .0) (at-node .node .last .1 .1 .1 .1 .0)) (c .before .before .before .rebuilt3 .ensures) ∙ at-node .node .ensures) _ (c .before .t3 .given .0 .0) true (c .before .t3 .given .1) refl refl) (at-node .node .kept .1 .1 .1 .0) (at-node .node .kept .1 .1 .1 .1 .0)
+      climb-go _ _ _ _ _ _ _ _ _ (on at-else .ready) (on at-else .here) _ (at-descend .descend .ensures) _ _ _ (left-ends at-match) _ _ _ _ (at-loop2 .loop2 .inv) (at-simple2 .simple2 .kept .1 .1 .1 .0) (at-simple2 .simple2 .kept .1 .1 .1 .1 .0) (at-loop2-test .loop2-test .taken) _ (at-spine-at .spine-at .ensures) _ (at-line-at .line-at .ensures) _ (goes-yes (at-loop2 .loop2 .tokens) (at-loop2 .loop2 .scratch) (at-loop2 .loop2 .now) _ _ _ (at-goes-right .goes-right .ensures) (at-if3 .if3 .taken)) _ _ _ (told-ok (at-node .node .last .1 .1 .1 .0) (at-node .node .last .1 .1 .1 .1 .0) (c .before .before .before .rebuilt3 .result) _ (ap (view-end (at-node .node .last .1 .1 .1 .0) (at-node .node .last .1 .1 .1 .1 .0)) (c .before .before .before .rebuilt3 .ensures) ∙ at-node .node .ensures) _ (c .before .f .given .0 .0) true (c .before .f .given .1) refl refl) (at-node .node .kept .1 .1 .1 .0) (at-node .node .kept .1 .1 .1 .1 .0)
 
-  enum-known-t-4 : node-lts.Need-enum-known-t-4 (node-calls t) (node-at t) node.Post Inv-loop2 μ-loop2 Inv-loop μ-loop
-  enum-known-t-4 c = search needs
+  enum-known-f-2 : node-lts.Need-enum-known-f-2 (node-calls t) (node-at t) node.Post Inv-loop2 μ-loop2 Inv-loop μ-loop
+  enum-known-f-2 c = search needs
 
   loop2-less-2 : node-lts.Need-loop2-less-2 (node-calls t) (node-at t) node.Post Inv-loop2 μ-loop2 Inv-loop μ-loop
   loop2-less-2 c =
@@ -256,41 +256,41 @@ module _ (t : ℕ) where
       let at-match = c .before .before .before .before .before .before .before .before .before .before .before .before .before .before .before .before .before in
       let at-simple2 = c .before .before .before .before .before .before .before .before .before .before .before .before .before .before .before .before .before .before .before .before .before .before .before in
       let at-descend = c .before .before .before .before .before .before .before .before .before .before .before .before .before .before .before .before .before .before .before .before .before .before .before .before .before .before .before in
-      climb-go _ _ _ _ _ _ _ _ _ (on at-else .ready) (on at-else .here) _ (at-descend .descend .ensures) _ _ _ (left-ends at-match) _ _ _ _ (at-loop2 .loop2 .inv) (at-simple2 .simple2 .kept .1 .1 .1 .0) (at-simple2 .simple2 .kept .1 .1 .1 .1 .0) (at-loop2-test .loop2-test .taken) _ (at-spine-at .spine-at .ensures) _ (at-line-at .line-at .ensures) _ (goes-yes (at-loop2 .loop2 .tokens) (at-loop2 .loop2 .scratch) (at-loop2 .loop2 .now) _ _ _ (at-goes-right .goes-right .ensures) (at-if3 .if3 .taken)) _ _ _ (told-err (at-node .node .last .1 .1 .1 .0) (at-node .node .last .1 .1 .1 .1 .0) (c .before .before .before .rebuilt3 .result) _ (ap (view-end (at-node .node .last .1 .1 .1 .0) (at-node .node .last .1 .1 .1 .1 .0)) (c .before .before .before .rebuilt3 .ensures) ∙ at-node .node .ensures) _ (c .before .t4 .given .0 .0) false (c .before .t4 .given .1) refl refl) (at-node .node .kept .1 .1 .1 .0) (at-node .node .kept .1 .1 .1 .1 .0)
+      climb-go _ _ _ _ _ _ _ _ _ (on at-else .ready) (on at-else .here) _ (at-descend .descend .ensures) _ _ _ (left-ends at-match) _ _ _ _ (at-loop2 .loop2 .inv) (at-simple2 .simple2 .kept .1 .1 .1 .0) (at-simple2 .simple2 .kept .1 .1 .1 .1 .0) (at-loop2-test .loop2-test .taken) _ (at-spine-at .spine-at .ensures) _ (at-line-at .line-at .ensures) _ (goes-yes (at-loop2 .loop2 .tokens) (at-loop2 .loop2 .scratch) (at-loop2 .loop2 .now) _ _ _ (at-goes-right .goes-right .ensures) (at-if3 .if3 .taken)) _ _ _ (told-err (at-node .node .last .1 .1 .1 .0) (at-node .node .last .1 .1 .1 .1 .0) (c .before .before .before .rebuilt3 .result) _ (ap (view-end (at-node .node .last .1 .1 .1 .0) (at-node .node .last .1 .1 .1 .1 .0)) (c .before .before .before .rebuilt3 .ensures) ∙ at-node .node .ensures) _ (c .before .f2 .given .0 .0) false (c .before .f2 .given .1) refl refl) (at-node .node .kept .1 .1 .1 .0) (at-node .node .kept .1 .1 .1 .1 .0)
 
-  enum-known-c-2 : node-lts.Need-enum-known-c-2 (node-calls t) (node-at t) node.Post Inv-loop2 μ-loop2 Inv-loop μ-loop
-  enum-known-c-2 c = search needs
+  enum-told-2 : node-lts.Need-enum-told-2 (node-calls t) (node-at t) node.Post Inv-loop2 μ-loop2 Inv-loop μ-loop
+  enum-told-2 c = search needs
 
   same-length-7 : node-lts.Need-same-length-7 (node-calls t) (node-at t) node.Post Inv-loop2 μ-loop2 Inv-loop μ-loop
   same-length-7 c =
-      let at-else = c .before .before .before .before .before .before .before .before .before .before .before .before .before .before .before .before .before .before .before .before .before .before .before .before .before .before .before .before in
-      let at-node = c .before .before .before .before .before .before .before .before in
-      let at-loop2 = c .before .before .before .before .before .before .before .before .before .before .before .before .before .before .before .before in
-      let at-simple2 = c .before .before .before .before .before .before .before .before .before .before .before .before .before .before .before .before .before .before .before .before .before .before .before in
+      let at-else = c .before .before .before .before .before .before .before .before .before .before .before .before .before .before .before .before .before .before .before .before .before .before .before .before .before .before .before in
+      let at-node = c .before .before .before .before .before .before .before in
+      let at-loop2 = c .before .before .before .before .before .before .before .before .before .before .before .before .before .before .before in
+      let at-simple2 = c .before .before .before .before .before .before .before .before .before .before .before .before .before .before .before .before .before .before .before .before .before .before in
       at-node .node .kept .1 .1 .1 .0 ∙ at-loop2 .loop2 .inv .tokens-same ∙ at-simple2 .simple2 .kept .1 .1 .1 .0 ∙ on at-else .tokens-same
 
   same-length-8 : node-lts.Need-same-length-8 (node-calls t) (node-at t) node.Post Inv-loop2 μ-loop2 Inv-loop μ-loop
   same-length-8 c =
-      let at-else = c .before .before .before .before .before .before .before .before .before .before .before .before .before .before .before .before .before .before .before .before .before .before .before .before .before .before .before .before in
-      let at-node = c .before .before .before .before .before .before .before .before in
-      let at-loop2 = c .before .before .before .before .before .before .before .before .before .before .before .before .before .before .before .before in
-      let at-simple2 = c .before .before .before .before .before .before .before .before .before .before .before .before .before .before .before .before .before .before .before .before .before .before .before in
+      let at-else = c .before .before .before .before .before .before .before .before .before .before .before .before .before .before .before .before .before .before .before .before .before .before .before .before .before .before .before in
+      let at-node = c .before .before .before .before .before .before .before in
+      let at-loop2 = c .before .before .before .before .before .before .before .before .before .before .before .before .before .before .before in
+      let at-simple2 = c .before .before .before .before .before .before .before .before .before .before .before .before .before .before .before .before .before .before .before .before .before .before in
       at-node .node .kept .1 .1 .1 .1 .0 ∙ at-loop2 .loop2 .inv .scratch-same ∙ at-simple2 .simple2 .kept .1 .1 .1 .1 .0 ∙ on at-else .scratch-same
 
   returns-4 : node-lts.Need-returns-4 (node-calls t) (node-at t) node.Post Inv-loop2 μ-loop2 Inv-loop μ-loop
   returns-4 c =
-      let at-else = c .before .before .before .before .before .before .before .before .before .before .before .before .before .before .before .before .before .before .before .before .before .before .before .before .before .before .before .before in
-      let at-node = c .before .before .before .before .before .before .before .before in
-      let at-if3 = c .before .before .before .before .before .before .before .before .before .before .before in
-      let at-goes-right = c .before .before .before .before .before .before .before .before .before .before .before .before in
-      let at-line-at = c .before .before .before .before .before .before .before .before .before .before .before .before .before in
-      let at-spine-at = c .before .before .before .before .before .before .before .before .before .before .before .before .before .before in
-      let at-loop2-test = c .before .before .before .before .before .before .before .before .before .before .before .before .before .before .before in
-      let at-loop2 = c .before .before .before .before .before .before .before .before .before .before .before .before .before .before .before .before in
-      let at-match = c .before .before .before .before .before .before .before .before .before .before .before .before .before .before .before .before .before in
-      let at-simple2 = c .before .before .before .before .before .before .before .before .before .before .before .before .before .before .before .before .before .before .before .before .before .before .before in
-      let at-descend = c .before .before .before .before .before .before .before .before .before .before .before .before .before .before .before .before .before .before .before .before .before .before .before .before .before .before .before in
-      climb-stop _ _ _ _ _ _ _ _ _ (on at-else .ready) (on at-else .here) _ (at-descend .descend .ensures) _ _ _ (left-ends at-match) _ _ _ _ (at-loop2 .loop2 .inv) (at-simple2 .simple2 .kept .1 .1 .1 .0) (at-simple2 .simple2 .kept .1 .1 .1 .1 .0) (at-loop2-test .loop2-test .taken) _ (at-spine-at .spine-at .ensures) _ (at-line-at .line-at .ensures) _ (goes-yes (at-loop2 .loop2 .tokens) (at-loop2 .loop2 .scratch) (at-loop2 .loop2 .now) _ _ _ (at-goes-right .goes-right .ensures) (at-if3 .if3 .taken)) _ (told _ _ _ _ _ (ap (view-end (at-node .node .last .1 .1 .1 .0) (at-node .node .last .1 .1 .1 .1 .0)) (c .before .before .before .rebuilt3 .ensures) ∙ at-node .node .ensures) (c .before .c2 .given .1)) ∙ on at-else .runs
+      let at-else = c .before .before .before .before .before .before .before .before .before .before .before .before .before .before .before .before .before .before .before .before .before .before .before .before .before .before .before in
+      let at-node = c .before .before .before .before .before .before .before in
+      let at-if3 = c .before .before .before .before .before .before .before .before .before .before in
+      let at-goes-right = c .before .before .before .before .before .before .before .before .before .before .before in
+      let at-line-at = c .before .before .before .before .before .before .before .before .before .before .before .before in
+      let at-spine-at = c .before .before .before .before .before .before .before .before .before .before .before .before .before in
+      let at-loop2-test = c .before .before .before .before .before .before .before .before .before .before .before .before .before .before in
+      let at-loop2 = c .before .before .before .before .before .before .before .before .before .before .before .before .before .before .before in
+      let at-match = c .before .before .before .before .before .before .before .before .before .before .before .before .before .before .before .before in
+      let at-simple2 = c .before .before .before .before .before .before .before .before .before .before .before .before .before .before .before .before .before .before .before .before .before .before in
+      let at-descend = c .before .before .before .before .before .before .before .before .before .before .before .before .before .before .before .before .before .before .before .before .before .before .before .before .before .before in
+      ap (view-end (at-node .node .last .1 .1 .1 .0) (at-node .node .last .1 .1 .1 .1 .0)) (c .enum-told2 .given .1) ∙ climb-stop _ _ _ _ _ _ _ _ _ (on at-else .ready) (on at-else .here) _ (at-descend .descend .ensures) _ _ _ (left-ends at-match) _ _ _ _ (at-loop2 .loop2 .inv) (at-simple2 .simple2 .kept .1 .1 .1 .0) (at-simple2 .simple2 .kept .1 .1 .1 .1 .0) (at-loop2-test .loop2-test .taken) _ (at-spine-at .spine-at .ensures) _ (at-line-at .line-at .ensures) _ (goes-yes (at-loop2 .loop2 .tokens) (at-loop2 .loop2 .scratch) (at-loop2 .loop2 .now) _ _ _ (at-goes-right .goes-right .ensures) (at-if3 .if3 .taken)) _ (told _ _ _ _ _ (ap (view-end (at-node .node .last .1 .1 .1 .0) (at-node .node .last .1 .1 .1 .1 .0)) (c .before .before .rebuilt3 .ensures) ∙ at-node .node .ensures) (c .enum-told2 .given .1)) ∙ on at-else .runs
 
   loop2-less-3 : node-lts.Need-loop2-less-3 (node-calls t) (node-at t) node.Post Inv-loop2 μ-loop2 Inv-loop μ-loop
   loop2-less-3 c =
@@ -383,9 +383,9 @@ node-closed t =
     (returns-2 t)
     (simple-requires-2 t)
     (rebuilt-requires-2 t)
-    (enum-known-t t)
-    (enum-known-t-2 t)
-    (enum-known-c t)
+    (enum-known-e t)
+    (enum-known-e-2 t)
+    (enum-told t)
     (same-length-5 t)
     (same-length-6 t)
     (returns-3 t)
@@ -396,13 +396,13 @@ node-closed t =
     (goes-right-requires t)
     (node-requires t)
     (rebuilt-requires-3 t)
-    (enum-known-t-3 t)
+    (enum-known-f t)
     (loop2-less t)
     (loop2-again t)
-    (enum-known-t-4 t)
+    (enum-known-f-2 t)
     (loop2-less-2 t)
     (loop2-again-2 t)
-    (enum-known-c-2 t)
+    (enum-told-2 t)
     (same-length-7 t)
     (same-length-8 t)
     (returns-4 t)
