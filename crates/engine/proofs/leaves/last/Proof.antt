@@ -1,5 +1,4 @@
 -- A leaf's match ends the walk; any other line is left to others.
-use mathlib.Core.Path.{refl, sym, ap, _∙_}
 use mathlib.Core.Bool.{true≢false, false≢true}
 use native.Mathlib.Omega.{arith}
 use Rattle.reading.proofs.Accepted.{accepted}
@@ -8,10 +7,6 @@ use Rattle.engine.proofs.LeafSteps.{kind-low, first-onto, last-ok, last
 use borrow.Author.Needs.{needs}
 use Rattle.engine.proofs.leaves.last.Statement.{statement}
 use Rattle.engine.proofs.leaves.last.Tie as tie
-use Rattle.engine.proofs.leaves.last.Reads as reads
-use Rattle.engine.proofs.leaves.last.Lts as lts
-use Rattle.engine.proofs.leaves.leaf.Reads as leaf-reads
-use Rattle.engine.proofs.node.line_at.Reads as line-at-reads
 
 line-at-requires : tie.Need-line-at-requires
 line-at-requires c κs = let S = c .before .before in whole _ _ (accepted _ _ (S .pre .0 .0) (S .pre .0 .1)) _ (S .pre .1)

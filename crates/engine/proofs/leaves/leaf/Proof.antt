@@ -8,13 +8,6 @@ use Rattle.engine.proofs.LeafSteps.{leaf-1, leaf-2, leaf-3, leaf-4, lea
 use borrow.Author.Needs.{needs}
 use Rattle.engine.proofs.leaves.leaf.Statement.{statement}
 use Rattle.engine.proofs.leaves.leaf.Tie as tie
-use Rattle.engine.proofs.leaves.leaf.Reads as reads
-use Rattle.engine.proofs.leaves.leaf.Lts as lts
-use Rattle.engine.proofs.node.line_at.Reads as line-at-reads
-use Rattle.engine.proofs.terminals.match_end.Reads as match-end-reads
-use Rattle.engine.proofs.terminals.match_literal.Reads as match-literal-reads
-use Rattle.matching.proofs.position.match_range.Reads as match-range-reads
-use Rattle.matching.proofs.position.skip.Reads as skip-reads
 
 line-at-requires : tie.Need-line-at-requires
 line-at-requires c κs = let S = c .before .before in whole _ _ (accepted _ _ (S .pre .0 .0) (S .pre .0 .1)) _ (S .pre .1 .0)

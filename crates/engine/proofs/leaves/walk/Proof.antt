@@ -1,8 +1,8 @@
 -- The invariant: from the line and the position so far, the evaluation comes to what it comes to from the first line.
-use mathlib.Core.Path.{_≡_, refl, sym, _∙_}
+use mathlib.Core.Path.{_≡_, refl}
 use mathlib.Core.Logic.{inl, inr, ⊎-elim}
 use mathlib.Core.Bool.{true≢false, false≢true}
-use Prim.Native.Nat.{ℕ, _≤_}
+use Prim.Native.Nat.{ℕ}
 use native.Mathlib.Omega.{arith}
 use borrow.Author.Needs.{needs}
 use Rattle.reading.specs.Fit.{Fit}
@@ -10,16 +10,10 @@ use Rattle.reading.specs.Pest.{ParserState, set-position}
 use Rattle.reading.proofs.Accepted.{accepted}
 use Rattle.engine.specs.Evaluation.{setting-of, Line}
 use Rattle.engine.specs.Leaves.{Onto}
-use Rattle.engine.specs.Spine.{Fork}
 use Rattle.engine.proofs.LineSteps.{whole}
 use Rattle.engine.proofs.LeafSteps.{kind-low, first-onto, last-ok, last-err, right-in, left-line, right-line, on-right, over-right, done-ok, done-err, walked-on}
 use Rattle.engine.proofs.leaves.walk.Statement.{statement}
 use Rattle.engine.proofs.leaves.walk.Tie as tie
-use Rattle.engine.proofs.leaves.walk.Reads as reads
-use Rattle.engine.proofs.leaves.walk.Lts as lts
-use Rattle.engine.proofs.leaves.last.Reads as last-reads
-use Rattle.engine.proofs.leaves.leaf.Reads as leaf-reads
-use Rattle.engine.proofs.node.line_at.Reads as line-at-reads
 
 abbrev Inv-loop : tie.InvT-loop
 Inv-loop nodes literals text line at₀ position₀ at position =

@@ -5,9 +5,6 @@ use Rattle.engine.proofs.Climbs.{ended-yes, ended-no}
 use borrow.Author.Needs.{needs}
 use Rattle.engine.proofs.spine.rebuilt.Statement.{statement}
 use Rattle.engine.proofs.spine.rebuilt.Tie as tie
-use Rattle.engine.proofs.spine.rebuilt.Reads as reads
-use Rattle.engine.proofs.spine.rebuilt.Lts as lts
-use Rattle.engine.proofs.spine.ended.Reads as ended-reads
 
 enum-known-r : tie.Need-enum-known-r
 enum-known-r c = search needs

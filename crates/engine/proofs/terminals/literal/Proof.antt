@@ -4,10 +4,6 @@ use Rattle.engine.specs.Areas.{view}
 use borrow.Author.Needs.{needs}
 use Rattle.engine.proofs.terminals.literal.Statement.{statement}
 use Rattle.engine.proofs.terminals.literal.Tie as tie
-use Rattle.engine.proofs.terminals.literal.Reads as reads
-use Rattle.engine.proofs.terminals.literal.Lts as lts
-use Rattle.engine.proofs.stack_state.moved.Reads as moved-reads
-use Rattle.engine.proofs.terminals.match_literal.Reads as match-literal-reads
 
 match-literal-requires : tie.Need-match-literal-requires
 match-literal-requires c κs = search needs

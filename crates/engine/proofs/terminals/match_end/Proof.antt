@@ -1,6 +1,5 @@
 -- By the test.
 use mathlib.Core.Path.{sym, _∙_}
-use mathlib.Core.Option.{none, some}
 use Rattle.engine.proofs.EndLaws.{if-yes, if-no}
 use borrow.Author.Needs.{needs}
 use Rattle.engine.proofs.terminals.match_end.Statement.{statement}

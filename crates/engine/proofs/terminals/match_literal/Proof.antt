@@ -3,10 +3,6 @@ use Rattle.engine.proofs.EndLaws.{literal-folded, literal-exact}
 use borrow.Author.Needs.{needs}
 use Rattle.engine.proofs.terminals.match_literal.Statement.{statement}
 use Rattle.engine.proofs.terminals.match_literal.Tie as tie
-use Rattle.engine.proofs.terminals.match_literal.Reads as reads
-use Rattle.engine.proofs.terminals.match_literal.Lts as lts
-use Rattle.matching.proofs.position.match_insensitive.Reads as match-insensitive-reads
-use Rattle.matching.proofs.position.match_string.Reads as match-string-reads
 
 add-end : tie.Need-add-end
 add-end c = search needs
