@@ -1,3 +1,4 @@
+// The call tracker: counted calls, the call limit and the cause, by value; and `enter`, which is lent it.
 use reading::call_limit_tracker::LimitKind;
 ghost use mathlib.Core.Path.{_≡_};
 ghost use mathlib.Core.Bool.{Bool, false};
