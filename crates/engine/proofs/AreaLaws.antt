@@ -1,12 +1,12 @@
 -- What one write does to a region of numbers, and an area zeroed from an index on.
 use mathlib.Core.Path.{_≡_, refl, sym, ap, ap₂, _∙_}
-use mathlib.Core.List.{List, [], _∷_, _++_, append-assoc, append-nil}
-use Prim.Native.Nat.{ℕ, zero, suc, _+_, _*_, _-_, _≤_, _<_, min}
+use mathlib.Core.List.{List, [], _∷_, _++_}
+use Prim.Native.Nat.{ℕ, zero, suc, _+_, _-_, _≤_, _<_}
 use native.Mathlib.Omega.{arith}
 use native.Mathlib.Decide.{decLt, decLe}
 use native.Mathlib.Numerals.{add-one}
 use lib.ListN.{length, getD, take, set, replicate, length-set, length-append, length-take, length-replicate, getD-replicate, List·getD-append}
-use lib.Seq.{getD-set-same, getD-set-other, take-append-le, take-all, take-suc, take-length, getD-take, getD-append-add, ext-getD}
+use lib.Seq.{getD-set-same, getD-set-other, take-append-le, take-all, getD-take, getD-append-add, ext-getD}
 use Rattle.engine.specs.Areas.{numbers, Outside}
 use Rattle.reading.specs.Outcome.{filled}
 use Rattle.engine.proofs.Regions.{outside-wider, outside-set, same-below, numbers-length, numbers-same}

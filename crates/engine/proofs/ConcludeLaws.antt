@@ -1,14 +1,14 @@
 -- How many tokens and rules an answer counts: a queue of n tokens has n, and sorting without duplicates adds none.
-use mathlib.Core.Path.{_≡_, refl, ap, _∙_}
+use mathlib.Core.Path.{_≡_, refl, ap}
 use mathlib.Core.Bool.{Bool, true, false}
-use mathlib.Core.List.{List, [], _∷_, _++_}
-use Prim.Native.Nat.{ℕ, zero, suc, _+_, _≤_}
+use mathlib.Core.List.{List, [], _∷_}
+use Prim.Native.Nat.{ℕ, suc, _≤_}
 use native.Mathlib.Omega.{arith}
-use lib.ListN.{length, length-append}
+use lib.ListN.{length}
 use lib.Dec.{eqb, ltb}
 use Rattle.reading.specs.Ending.{if_then_else_}
 use Rattle.reading.specs.Pest.{QueueableToken}
-use Rattle.engine.specs.Areas.{numbers, token-at, queue-of}
+use Rattle.engine.specs.Areas.{numbers, queue-of}
 use Rattle.reading.specs.Outcome.{insert, ascending, Outcome}
 use Rattle.reading.specs.Answer.{tokens-of}
 use Rattle.engine.proofs.Regions.{numbers-length}

@@ -12,32 +12,35 @@ use Rattle.matching.specs.declared.position.BytePosition.{BytePosition}
 use Rattle.matching.specs.declared.position.TokenIndex.{TokenIndex}
 use Rattle.matching.specs.declared.position.Matched.{Matched}
 use Rattle.reading.specs.declared.parser_state.Lookahead.{Lookahead}
-use Rattle.engine.specs.declared.parser_state.ParserState as Code
-use Rattle.reading.specs.Ending.{if_then_else_, Ok, Err}
-use Rattle.reading.specs.Pest.{ParserState, QueueableToken, set-position, set-queue, limit-reached, moved}
-use Rattle.engine.specs.Areas.{view, queue-of}
+use Rattle.reading.specs.declared.parser_state.Atomicity.{Atomicity}
+use Rattle.engine.specs.declared.parser_state.Ending as Declared
+use Rattle.engine.specs.declared.parser_state.Ending.the-variants as Variants
+use Rattle.engine.specs.Fields as Code
+use Rattle.reading.specs.Ending.{if_then_else_, Ok, Err, Stop}
+use Rattle.reading.specs.Pest.{ParserState, QueueableToken, set-position, set-queue, set-lookahead, limit-reached, moved}
+use Rattle.engine.specs.Areas.{view, view-end, queue-of}
 use Rattle.engine.specs.StackReady.{StateReady}
 use Rattle.engine.specs.StackMatch.{match-of}
-use Rattle.engine.specs.Ends.{looking}
+use Rattle.engine.specs.Ends.{looking, atomic-back}
 use Rattle.engine.proofs.TokenLaws.{queue-take}
 
 -- ── the state before a restore ──
-abbrev pub cut-back : Code.ParserState → BytePosition → TokenIndex → Code.ParserState
-cut-back s p i = record { position = p; queue = i; lookahead = s .lookahead; atomicity = s .atomicity; attempts = s .attempts; stack = s .stack; tracker = s .tracker }
+abbrev pub back-to : Code.ParserState → BytePosition → TokenIndex → Lookahead → Code.ParserState
+back-to s p i l = Code.set-lookahead l (Code.set-queue i (Code.set-position p s))
 
-pub cut-view : (tokens scratch : List ℕ) (s : Code.ParserState) (p : BytePosition) (i : TokenIndex) → i .0 ≤ s .queue .0
-    → view tokens scratch (cut-back s p i) ≡ set-queue (take (i .0) (queue-of tokens (s .queue .0))) (set-position (p .0) (view tokens scratch s))
-cut-view tokens scratch s p i h = ap (λ (q : List QueueableToken). set-queue q (set-position (p .0) (view tokens scratch s))) (sym (queue-take tokens (s .queue .0) (i .0) h))
+module _ (a : List ℕ) (s t : Code.ParserState) (p : BytePosition) (i : TokenIndex) (l : Lookahead) (e : t ≡ back-to s p i l) where
+  -- A state is ready by its stack and its attempts alone.
+  pub back-ready : StateReady a s → StateReady a t
+  back-ready h = rw e (record { stack = h .stack; positives = h .positives; negatives = h .negatives })
 
-abbrev pub back-to : Code.ParserState → BytePosition → Lookahead → Code.ParserState
-back-to s p l = record { position = p; queue = s .queue; lookahead = l; atomicity = s .atomicity; attempts = s .attempts; stack = s .stack; tracker = s .tracker }
+  pub cut-view : (tokens : List ℕ) → i .0 ≤ s .queue .0 → view tokens a t ≡ set-lookahead l (set-queue (take (i .0) (queue-of tokens (s .queue .0))) (set-position (p .0) (view tokens a s)))
+  cut-view tokens h = ap (view tokens a) e ∙ ap (λ (q : List QueueableToken). set-lookahead l (set-queue q (set-position (p .0) (view tokens a s)))) (sym (queue-take tokens (s .queue .0) (i .0) h))
 
--- A state is ready by its stack and its attempts alone.
-pub cut-ready : (a : List ℕ) (s : Code.ParserState) (p : BytePosition) (i : TokenIndex) → StateReady a s → StateReady a (cut-back s p i)
-cut-ready a s p i h = record { stack = h .stack; positives = h .positives; negatives = h .negatives }
-
-pub back-ready : (a : List ℕ) (s : Code.ParserState) (p : BytePosition) (l : Lookahead) → StateReady a s → StateReady a (back-to s p l)
-back-ready a s p l h = record { stack = h .stack; positives = h .positives; negatives = h .negatives }
+-- ── the atomicity ──
+pub atomic-set : (tokens scratch : List ℕ) (s t : Code.ParserState) (a : Atomicity) (r : Declared.Ending) → t ≡ Code.set-atomicity a s → view-end tokens scratch t r ≡ atomic-back a (view-end tokens scratch s r)
+atomic-set tokens scratch s t a Variants.Ok e = ap (λ (u : Code.ParserState). Ok (view tokens scratch u)) e
+atomic-set tokens scratch s t a Variants.Err e = ap (λ (u : Code.ParserState). Err (view tokens scratch u)) e
+atomic-set tokens scratch s t a Variants.Stop e = ap (λ (u : Code.ParserState). Stop (u .cause)) e
 
 -- ── the answer of a lookahead ──
 pub looking-limit : (good : Bool) (m : ParserState) → limit-reached m ≡ true → Err m ≡ looking good m

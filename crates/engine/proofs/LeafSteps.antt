@@ -1,15 +1,13 @@
 -- A leaf's match is its line's evaluation, for every state at its position. A fork whose left side is a leaf then goes on at its right
 -- side or is done, and the evaluation of the line that the walk began with goes along.
 use mathlib.Core.Path.{_≡_, refl, sym, ap, subst, _∙_}
-use mathlib.Core.Bool.{Bool, true, false}
-use mathlib.Core.Logic.{_⊎_, inl, inr}
+use mathlib.Core.Bool.{Bool, true, false, true≢false, false≢true}
 use mathlib.Core.List.{List}
 use mathlib.Core.Option.{Option, none, some}
-use Prim.Native.Nat.{ℕ, _+_, _≤_, _<_}
+use Prim.Native.Nat.{ℕ, _≤_, _<_}
 use native.Mathlib.Omega.{arith}
-use lib.Dec.{eqb}
 use lib.IntN.{ℤ}
-use lib.ListN.{length, take, drop}
+use lib.ListN.{take, drop}
 use borrow.Author.Tests.{eq-eqb, ne-eqb}
 use Rattle.matching.specs.Position as Position
 use Rattle.matching.specs.Answers.{matched}
@@ -17,14 +15,14 @@ use Rattle.matching.specs.declared.position.BytePosition.{BytePosition}
 use Rattle.matching.specs.declared.position.Matched.{Matched}
 use Rattle.matching.specs.declared.position.Matched.the-variants as Matched-of
 use Rattle.engine.specs.declared.node.Line as Read
-use Rattle.engine.specs.declared.parser_state.ParserState as Code
+use Rattle.engine.specs.Fields as Code
 use Rattle.reading.specs.Ending.{if_then_else_, Ending, Ok, Err}
 use Rattle.reading.specs.Fit.{Fit}
 use Rattle.reading.specs.Grammar.{node-at, kind-at, tree-at}
 use Rattle.reading.specs.Pest as Pest
 use Rattle.reading.specs.Pest.{ParserState, set-position}
 use Rattle.engine.specs.Areas.{view, view-end}
-use Rattle.engine.specs.Evaluation.{setting-of, Ready, Line, evaluated}
+use Rattle.engine.specs.Evaluation.{setting-of, Line, evaluated}
 use Rattle.engine.specs.declared.leaves.Halt.{Halt}
 use Rattle.engine.specs.Leaves.{Onto, Walked, answer}
 use Rattle.engine.specs.Lines.{line-of}
@@ -32,7 +30,7 @@ use Rattle.engine.specs.Spine.{Fork, ending-of}
 use Rattle.engine.specs.StackMatch.{match-of}
 use Rattle.reading.proofs.Accepted.{Accepted, Fits, facts}
 use Rattle.engine.proofs.Climbs as Climbs
-use Rattle.engine.proofs.Climbs.{Onward, go, stay, going, onto, right-of, Forked, Lower}
+use Rattle.engine.proofs.Climbs.{go, stay, going, onto, Forked, Lower}
 use Rattle.engine.proofs.EndLaws.{moved-by}
 use Rattle.engine.proofs.Steps.{kept-by, ready-on}
 use Rattle.engine.proofs.TerminalSteps.{end-1, end-2, end-3, end-4, end-5}
@@ -104,6 +102,14 @@ walked-on ns literals text capacity d line m at p o r w = record {
   going = λ h. let v = w .going h in record { here = v .here; upto = omega (arith, v .upto, o .upto); fit = v .fit; runs = v .runs ∙ o .runs };
   ended = λ h. w .ended h ∙ o .runs;
 }
+
+-- The two answers of a walk: a line that it leaves to others, and an ending.
+module _ (ns : List ℤ) (literals text : List ℕ) (capacity d line : ℕ) (m : ParserState) (at : ℕ) (p : BytePosition) (r : Halt) where
+  pub walked-halted : r ≡ record { line = at; position = p; good = false; done = false } → Onto ns literals text capacity d line m at (p .0) → Walked ns literals text capacity d line m r
+  walked-halted e o = subst (Walked ns literals text capacity d line m) (sym e) (record { going = λ _. o; ended = λ h. absurd (false≢true h) })
+
+  pub walked-done : (good : Bool) → r ≡ record { line = at; position = p; good = good; done = true } → answer good (set-position (p .0) m) ≡ evaluated ns literals text capacity d (tree-at ns literals line) m → Walked ns literals text capacity d line m r
+  walked-done good e x = subst (Walked ns literals text capacity d line m) (sym e) (record { going = λ h. absurd (true≢false h); ended = λ _. x })
 
 -- What a match says of a state's ending.
 pub last-ok : (r : Matched) (m : ParserState) (q : BytePosition) (x : Ending ParserState) → Pest.moved (match-of r) m ≡ x → r ≡ Matched-of.At q → Ok (set-position (q .0) m) ≡ x
@@ -193,7 +199,6 @@ walk-on ns literals text capacity d line tokens₀ scratch₀ m₀ tokens scratc
   runs = o .runs ∙ v .runs;
 }
 
-pub answers : (a b : List ℕ) (good : Bool) (s : Code.ParserState) → view-end a b (ending-of good s) ≡ answer good (view a b s)
-unfolding ending-of
-answers a b true s = refl
-answers a b false s = refl
+pub answers : (a b : List ℕ) (s : Code.ParserState) (good : Bool) → view-end a b s (ending-of good) ≡ answer good (view a b s)
+answers a b s true = refl
+answers a b s false = refl

@@ -1,3 +1,4 @@
+pub mod StateFields
 pub mod Regions
 pub mod Moves
 pub mod StackSteps
@@ -21,7 +22,6 @@ pub mod IndexLaws
 pub mod PopMatch
 pub mod StateSteps
 pub mod RuleLaws
-pub mod StackKept
 pub mod RuleEnds
 pub mod ConcludeLaws
 pub mod Steps

@@ -1,15 +1,15 @@
 -- Popping and matching, one entry at a time: what the pop answered decides pest's next step, and the answer from there on is the whole
 -- answer.
 use mathlib.Core.Path.{_≡_, refl, sym, ap, ap₂, _∙_, subst}
-use mathlib.Core.Bool.{Bool, true, false}
+use mathlib.Core.Bool.{Bool, true, false, not}
 use mathlib.Core.List.{List, [], _∷_}
 use mathlib.Core.Option.{Option, none, some}
 use Prim.Native.Nat.{ℕ, suc, _+_, _-_, _≤_, _<_}
 use native.Mathlib.Omega.{arith}
 use lib.ListN.{length, getD, drop, length-drop}
 use lib.Seq.{getD-drop}
-use lib.Dec.{eqb, ltb}
-use borrow.Author.Tests.{ltb-false, le-ltb, eq-eqb, ne-eqb, le-leb, lt-leb}
+use lib.Dec.{eqb, ltb, leb}
+use borrow.Author.Tests.{ltb-false, leb-true, leb-false, not-true, not-false, le-ltb, eq-eqb, ne-eqb, le-leb, lt-leb}
 use Rattle.matching.specs.declared.span.Span as Code
 use Rattle.matching.specs.Position.{starts-by, match-by, match-string, bytes-of}
 use Rattle.matching.proofs.Starts.{starts-short, From, from-start, from-more, from-fails, from-end}
@@ -124,34 +124,49 @@ module _ (text : List ℕ) (v : Pest.Stack) (line p : ℕ) (m : ParserState) whe
         go o e = rw e
 
 -- ── The bytes of one entry, compared ──
+-- Whether n bytes stand at p, tested without a sum.
+pub room-past : (p n size : ℕ) → size < p → false ≡ leb (p + n) size
+room-past p n size h = sym (lt-leb (p + n) size (omega (arith, h)))
+
+pub room-is : (p n size : ℕ) → p ≤ size → leb n (size - p) ≡ leb (p + n) size
+room-is p n size h = go (leb n (size - p)) refl
+  where
+    go : (b : Bool) → leb n (size - p) ≡ b → b ≡ leb (p + n) size
+    go true e = sym (le-leb (p + n) size (omega (arith, h, leb-true n (size - p) e)))
+    go false e = sym (lt-leb (p + n) size (omega (arith, h, leb-false n (size - p) e)))
+
 -- A loop over `bytes`, at the position p of the text.
 module _ (text bytes : List ℕ) (p : ℕ) where
-  pub bytes-past : length text < p → match-string text bytes p ≡ none
-  unfolding match-by
-  bytes-past h = rw (lt-leb p (length text) h)
+  module _ (room : Bool) (e : room ≡ leb (p + length bytes) (length text)) where
+    pub bytes-short : not room ≡ true → match-string text bytes p ≡ none
+    unfolding match-by
+    bytes-short h = go (leb p (length text)) refl
+      where
+        go : (b : Bool) → leb p (length text) ≡ b → match-string text bytes p ≡ none
+        go false l = rw l
+        go true l = rw (l, starts-short eqb bytes (drop p text) (omega (arith, length-drop p text, leb-true p (length text) l, leb-false (p + length bytes) (length text) (sym e ∙ not-true room h))))
 
-  pub bytes-short : p ≤ length text → length text - p < length bytes → match-string text bytes p ≡ none
-  unfolding match-by
-  bytes-short l h = rw (le-leb p (length text) l, starts-short eqb bytes (drop p text) (omega (arith, length-drop p text)))
+    pub bytes-fit : not room ≡ false → p + length bytes ≤ length text
+    bytes-fit h = leb-true (p + length bytes) (length text) (sym e ∙ not-false room h)
 
-  pub bytes-start : p ≤ length text → length bytes ≤ length text - p → From eqb bytes (drop p text) 0
-  bytes-start l h = from-start eqb bytes (drop p text) (omega (arith, length-drop p text))
+  pub bytes-start : p + length bytes ≤ length text → From eqb bytes (drop p text) 0
+  bytes-start l = from-start eqb bytes (drop p text) (omega (arith, l, length-drop p text))
 
   module _ (i : ℕ) (f : From eqb bytes (drop p text) i) where
     pub bytes-more : i < length bytes → getD text (p + i) 0 ≡ getD bytes i 0 → From eqb bytes (drop p text) (i + 1)
     bytes-more h e = from-more eqb bytes (drop p text) i f h (eq-eqb _ _ (sym e ∙ sym (getD-drop p text i 0)))
 
-    pub bytes-differ : p ≤ length text → i < length bytes → (getD text (p + i) 0 ≡ getD bytes i 0 → ⊥) → match-string text bytes p ≡ none
+    pub bytes-differ : p + length bytes ≤ length text → i < length bytes → (getD text (p + i) 0 ≡ getD bytes i 0 → ⊥) → match-string text bytes p ≡ none
     unfolding match-by
     bytes-differ l h n =
         let t : false ≡ starts-by eqb bytes (drop p text) = from-fails eqb bytes (drop p text) i f h (ne-eqb _ _ (λ e. n (sym (getD-drop p text i 0) ∙ sym e))) in
-        rw (le-leb p (length text) l, ← t)
+        rw (le-leb p (length text) (omega (arith, l)), ← t)
 
-    pub bytes-all : p ≤ length text → length bytes ≤ i → match-string text bytes p ≡ some (p + length bytes)
+    pub bytes-all : p + length bytes ≤ length text → length bytes ≤ i → match-string text bytes p ≡ some (p + length bytes)
     unfolding match-by
     bytes-all l h =
         let t : true ≡ starts-by eqb bytes (drop p text) = from-end eqb bytes (drop p text) i f h in
-        rw (le-leb p (length text) l, ← t)
+        rw (le-leb p (length text) (omega (arith, l)), ← t)
 
     -- What stands at p + i is in the text.
     pub bytes-inside : i < length bytes → p + i < length text

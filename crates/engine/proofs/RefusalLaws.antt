@@ -15,11 +15,10 @@ use Rattle.engine.specs.declared.grammar.Fault.{Fault}
 use Rattle.engine.specs.declared.grammar.Fault.the-variants as Fault
 use Rattle.engine.specs.declared.grammar.Refused.{Refused}
 use Rattle.engine.specs.declared.grammar.Refused.the-variants.{No, By}
-use Rattle.reading.specs.Ending.{if_then_else_}
-use Rattle.reading.specs.Grammar.{line-count, first-line, misfit}
+use Rattle.reading.specs.Grammar.{line-count, misfit}
 use Rattle.reading.specs.Nullable.{still-repeat}
 use Rattle.reading.specs.Outcome.{Input, Refusal, refuse, unless, good-text, first-of, refusal}
-use Rattle.engine.specs.Lines.{fault-of, line-misfits}
+use Rattle.engine.specs.Lines.{fault-of}
 use Rattle.reading.proofs.Accepted.{misfit-fours}
 use Rattle.engine.specs.Refusals.{refused-of, Handed, later-tests}
 

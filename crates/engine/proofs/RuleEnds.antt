@@ -2,13 +2,13 @@
 use mathlib.Core.Path.{_≡_, refl, sym, ap, _∙_, subst}
 use mathlib.Core.Bool.{Bool, true, false, _&&_, _||_, not}
 use mathlib.Core.List.{List, []}
-use Prim.Native.Nat.{ℕ, _≤_}
+use Prim.Native.Nat.{ℕ}
 use native.Mathlib.Omega.{arith}
 use lib.ListN.{length}
 use lib.Dec.{ltb}
 use Rattle.reading.specs.declared.parser_state.Cause.the-variants.{AttemptsFull}
 use Rattle.engine.specs.declared.attempts.Noted.{Noted}
-use Rattle.engine.specs.declared.parser_state.ParserState as Code
+use Rattle.engine.specs.Fields as Code
 use Rattle.engine.specs.declared.parser_state.Ending as Code·ending
 use Rattle.engine.specs.declared.parser_state.Ending.the-variants as Code·of
 use Rattle.reading.specs.Ending.{Ending, Ok, Err, Stop, on-ok, stop-if, is-negative, is-atomic}
@@ -44,20 +44,20 @@ module _ (g : Setting) (due : Bool) (line r p : ℕ) (n : Noted) (m : ParserStat
       go true false e = kept e (ltb most-attempts (length (t .pos-attempts)) || ltb most-attempts (length (t .neg-attempts)))
 
   -- ── a rule, after its tracking, which the code answered with y, known to be z ──
-  module _ (tokens b : List ℕ) (y z : Code·ending.Ending) (same : y ≡ z)
-      (h : view-end tokens b y ≡ tracking g true due line r p (n .positives) (n .negatives) (n .total) m (λ (t : ParserState). Ok t)) where
-    then-on : (k : ParserState → Ending ParserState) → on-ok (view-end tokens b z) k ≡ tracking g true due line r p (n .positives) (n .negatives) (n .total) m k
+  module _ (tokens b : List ℕ) (s : Code.ParserState) (y z : Code·ending.Ending) (same : y ≡ z)
+      (h : view-end tokens b s y ≡ tracking g true due line r p (n .positives) (n .negatives) (n .total) m (λ (t : ParserState). Ok t)) where
+    then-on : (k : ParserState → Ending ParserState) → on-ok (view-end tokens b s z) k ≡ tracking g true due line r p (n .positives) (n .negatives) (n .total) m k
     then-on k =
-        ap (λ (x : Ending ParserState). on-ok x k) (sym (ap (view-end tokens b) same) ∙ h)
+        ap (λ (x : Ending ParserState). on-ok x k) (sym (ap (view-end tokens b s) same) ∙ h)
         ∙ sym (tracking-then g line r due p (n .positives) (n .negatives) (n .total) m k)
 
-    pub after-ok : (i : ℕ) (e : Ending ParserState) → due ≡ is-negative (m .lookahead) → e ≡ on-ok (view-end tokens b z) (λ t. close-rule g true line r i t)
+    pub after-ok : (i : ℕ) (e : Ending ParserState) → due ≡ is-negative (m .lookahead) → e ≡ on-ok (view-end tokens b s z) (λ t. close-rule g true line r i t)
         → e ≡ rule-end g true line r p i (n .positives) (n .negatives) (n .total) (Ok m)
     after-ok i e d q =
         q ∙ then-on (λ t. close-rule g true line r i t)
         ∙ ap (λ (c : Bool). tracking g true c line r p (n .positives) (n .negatives) (n .total) m (λ t. close-rule g true line r i t)) d
 
-    pub after-err : (i : ℕ) (e : Ending ParserState) → due ≡ not (is-negative (m .lookahead)) → e ≡ on-ok (view-end tokens b z) (λ t. Err (dropped i t))
+    pub after-err : (i : ℕ) (e : Ending ParserState) → due ≡ not (is-negative (m .lookahead)) → e ≡ on-ok (view-end tokens b s z) (λ t. Err (dropped i t))
         → e ≡ rule-end g true line r p i (n .positives) (n .negatives) (n .total) (Err m)
     after-err i e d q =
         q ∙ then-on (λ t. Err (dropped i t))
@@ -68,10 +68,10 @@ any-setting : Setting
 any-setting = record { text = []; rule-at = λ l. record { line = 0; rule = 0; body = end-of-input }; capacity = 0 }
 
 -- What writing the End asks of the state that tracking left.
-pub recording-after : (tokens a b : List ℕ) (capacity : ℕ) (due : Bool) (line r p : ℕ) (n : Noted) (s t : Code.ParserState) (x : Code·ending.Ending) → x ≡ Code·of.Ok t
-    → ((g : Setting) (ts : List ℕ) → view-end ts b x ≡ tracking g true due line r p (n .positives) (n .negatives) (n .total) (view ts a s) (λ (u : ParserState). Ok u))
+pub recording-after : (tokens a b : List ℕ) (capacity : ℕ) (due : Bool) (line r p : ℕ) (n : Noted) (s t : Code.ParserState) (x : Code·ending.Ending) → x ≡ Code·of.Ok
+    → ((g : Setting) (ts : List ℕ) → view-end ts b t x ≡ tracking g true due line r p (n .positives) (n .negatives) (n .total) (view ts a s) (λ (u : ParserState). Ok u))
     → Recording tokens capacity s → Recording tokens capacity t
 recording-after tokens a b capacity due line r p n s t x e h w =
     let stood : t .position .0 ≡ s .position .0 =
-    subst (λ (y : Ending ParserState). At y (s .position .0)) (sym (h any-setting tokens) ∙ ap (view-end tokens b) e) (tracking-at any-setting due line r p n (view tokens a s)) in
+    subst (λ (y : Ending ParserState). At y (s .position .0)) (sym (h any-setting tokens) ∙ ap (view-end tokens b t) e) (tracking-at any-setting due line r p n (view tokens a s)) in
     record { room = w .room; most = w .most; near = omega (arith, stood, w .near) }

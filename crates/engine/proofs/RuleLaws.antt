@@ -1,32 +1,33 @@
 -- The leaves of `rule`: each law is one arm of the code, over pest's own state. The last part puts the leaves together again: `rule` is
 -- its start, its body, and its end.
-use mathlib.Core.Path.{_≡_, refl, sym, ap, ap₂, _∙_}
+use mathlib.Core.Path.{_≡_, refl, sym, ap, _∙_}
 use mathlib.Core.Bool.{Bool, true, false, _&&_, _||_, not}
 use mathlib.Core.List.{List, [], _∷_, _++_}
-use Prim.Native.Nat.{ℕ, _+_, _*_, _-_, _≤_, _<_}
+use Prim.Native.Nat.{ℕ, _+_, _*_, _≤_, _<_}
 use native.Mathlib.Omega.{arith}
-use native.Mathlib.Decide.{decLt}
 use lib.ListN.{length, getD, take, set, length-set}
 use lib.Seq.{set-out, take-all}
-use lib.Dec.{eqb, ltb, leb}
-use borrow.Author.Tests.{le-leb, lt-leb, leb-true, leb-false}
+use lib.Dec.{ltb, leb}
+use borrow.Author.Tests.{le-leb, lt-leb}
+use Rattle.matching.specs.declared.position.BytePosition.{BytePosition}
+use Rattle.matching.specs.declared.position.TokenIndex.{TokenIndex}
 use Rattle.reading.specs.declared.parser_state.Lookahead.{Lookahead}
 use Rattle.reading.specs.declared.parser_state.Atomicity.{Atomicity}
 use Rattle.reading.specs.declared.parser_state.Cause.the-variants.{TokensFull, AttemptsFull}
 use Rattle.engine.specs.declared.attempts.Noted.{Noted}
 use Rattle.engine.specs.declared.attempts.Attempts.{Attempts}
 use Rattle.engine.specs.declared.stack.Stack.{Stack}
-use Rattle.engine.specs.declared.parser_state.ParserState as Declared
-use Rattle.reading.specs.Ending.{if_then_else_, Ending, Ok, Err, Stop, on-ok, stop-if, is-negative, is-none, is-atomic}
+use Rattle.engine.specs.Fields as Declared
+use Rattle.reading.specs.Ending.{if_then_else_, Ending, Ok, Stop, on-ok, stop-if, is-negative, is-none, is-atomic}
 use Rattle.reading.specs.Reading.{Setting, most-attempts}
 use Rattle.reading.specs.Pest as Pest
 use Rattle.reading.specs.Pest.{ParserState, QueueableToken, Start, End, produces, with-end, set-queue, push-token, tracking, close-rule, tag-last, tag-node}
 use Rattle.engine.specs.Areas.{Outside, view, queue-of, stack-of, span, checkpoint, positives-at, lengths-at, entries-at, popped-at}
-use Rattle.engine.specs.Attempts.{Tried, tried, tried-of, with-tried, noted, tracked, Track, kept, full, within}
-use Rattle.engine.specs.Tokens.{Patched, Paired, Pushed}
-use Rattle.engine.specs.Rule.{starting, dropped}
-use Rattle.engine.proofs.Regions.{outside-refl, outside-trans, outside-wider, same-below, same-above, pairs-same}
-use Rattle.engine.proofs.TokenLaws.{queue-length, queue-take}
+use Rattle.engine.specs.Attempts.{Tried, tried, tried-of, with-tried, noted, tracked, Track, kept, full, within, Lent}
+use Rattle.engine.specs.Tokens.{Patched, Paired, Pushed, Tagged}
+use Rattle.engine.specs.Rule.{starting, dropped, Recording}
+use Rattle.engine.proofs.Regions.{outside-refl, outside-wider, same-below, same-above, pairs-same}
+use Rattle.engine.proofs.TokenLaws.{queue-length}
 use Rattle.engine.proofs.AttemptLaws.{track-is}
 
 -- ── produces ──
@@ -66,6 +67,11 @@ module _ (g : Setting) (line : ℕ) (m : ParserState) where
   pub start-off : produces m ≡ false → Ok m ≡ starting g line m
   start-off f = when-false (produces m) (Ok m) (push-token g true line (Start 0 (m .position)) m (λ s. Ok s)) f
 
+-- What was read of the state, put for what the state has.
+pub pushed-at : (a b : List ℕ) (s : Declared.ParserState) (n : TokenIndex) (p : BytePosition) (f : ℕ → QueueableToken) → n ≡ s .queue → p ≡ s .position → Pushed a (n .0) (f (p .0)) b
+    → Pushed a (s .queue .0) (f (s .position .0)) b
+pushed-at a b s n p f e h q = rw (e, h) at q
+
 -- ── close ──
 -- the queue whose Start at index i has its partner
 abbrev partnered : ℕ → List QueueableToken → List QueueableToken
@@ -90,13 +96,26 @@ module _ (g : Setting) (line r i : ℕ) (m : ParserState) where
   pub close-off : produces m ≡ false → Ok m ≡ close-rule g true line r i m
   close-off f = when-false (produces m) (Ok m) (push-token g true line (End i r 0 (m .position)) (set-queue (partnered i (m .queue)) m) (λ s. Ok s)) f
 
--- the capacity against how many tokens there are
-module _ (a : List ℕ) (n capacity c : ℕ) (e : c ≡ capacity) where
-  pub room-yes : n < capacity → length (queue-of a n) < c
-  room-yes h = omega (arith, queue-length a n)
+-- the capacity against how many tokens there are, n, which stands in the state as q
+module _ (a : List ℕ) (n q : TokenIndex) (same : n ≡ q) (capacity c : ℕ) (e : c ≡ capacity) where
+  pub room-yes : n .0 < capacity → length (queue-of a (q .0)) < c
+  room-yes h = let k : n .0 ≡ q .0 = ap (λ (x : TokenIndex). x .0) same in omega (arith, queue-length a (q .0))
 
-  pub room-no : capacity ≤ n → c ≤ length (queue-of a n)
-  room-no h = omega (arith, queue-length a n)
+  pub room-no : capacity ≤ n .0 → c ≤ length (queue-of a (q .0))
+  room-no h = let k : n .0 ≡ q .0 = ap (λ (x : TokenIndex). x .0) same in omega (arith, queue-length a (q .0))
+
+-- What a push asks.
+module _ {tokens : List ℕ} {room : ℕ} (s : Declared.ParserState) (ready : Recording tokens room s) where
+  pub room-left : (n : TokenIndex) → n .0 < room → n .0 * 5 + 5 ≤ length tokens
+  room-left n l = omega (arith, ready .room)
+
+  pub near-read : (p : BytePosition) → p ≡ s .position → p .0 ≤ 65535
+  near-read p e = rw e (ready .near)
+
+-- One more token than were read.
+pub one-more : (tokens scratch : List ℕ) (s t : Declared.ParserState) (n : TokenIndex) → n ≡ s .queue → t ≡ Declared.set-queue (record { 0 = n .0 + 1 }) s
+    → view tokens scratch t ≡ set-queue (queue-of tokens (s .queue .0 + 1)) (view tokens scratch s)
+one-more tokens scratch s t n e h = rw (h, e)
 
 -- ── the partner of a Start among n tokens ──
 module _ (a b : List ℕ) (i n : ℕ) where
@@ -108,6 +127,9 @@ module _ (a b : List ℕ) (i n : ℕ) where
 
 pub paired-queue : (a b : List ℕ) (i n : ℕ) → Paired a i n b → queue-of b n ≡ partnered i (queue-of a n)
 paired-queue a b i n p = p .queue ∙ ap (λ (k : ℕ). set (queue-of a n) i (with-end k (getD (queue-of a n) i (Start 0 0)))) (sym (queue-length a n))
+
+pub paired-at : (a b : List ℕ) (s : Declared.ParserState) (n : TokenIndex) (i : ℕ) → n ≡ s .queue → Paired a i (n .0) b → Paired a i (s .queue .0) b
+paired-at a b s n i e h = rw e at h
 
 -- ── drop ──
 module _ (i : ℕ) (m : ParserState) where
@@ -121,6 +143,14 @@ module _ (i : ℕ) (m : ParserState) where
   drop-off f = rw f
 
 -- ── tag ──
+-- the queue's length as it was read, put for what the state has
+module _ (n q : TokenIndex) (same : n ≡ q) where
+  pub fits-read : (size : ℕ) → q .0 * 5 ≤ size → n .0 * 5 ≤ size
+  fits-read size h = rw same h
+
+  pub tagged-at : (a b : List ℕ) (u : ℕ) → Tagged a (n .0) u b → Tagged a (q .0) u b
+  tagged-at a b u h = rw same at h
+
 module _ (u : ℕ) (m : ParserState) where
   pub tag-on : (q : List QueueableToken) → is-none (m .lookahead) ≡ true → q ≡ tag-last u (m .queue) → Ok (set-queue q m) ≡ tag-node u m
   tag-on q t e = rw t (ap (λ (x : List QueueableToken). Ok (set-queue x m)) e)
@@ -139,7 +169,7 @@ stack-kept a b s h p o = sym (λ i. record {
 
 -- The state with other attempts, seen from the area as tracking left it.
 pub kept-view : (tokens a b : List ℕ) (s : Declared.ParserState) (u : Attempts) → s .stack .height ≤ 128 → s .stack .popped ≤ 1024 → Outside positives-at lengths-at a b
-    → view tokens b (record { position = s .position; queue = s .queue; lookahead = s .lookahead; atomicity = s .atomicity; attempts = u; stack = s .stack; tracker = s .tracker })
+    → view tokens b (Declared.set-attempts u s)
     ≡ with-tried (tried b u) (view tokens a s)
 kept-view tokens a b s u h p o = ap (λ (v : Pest.Stack). Pest.set-stack v (with-tried (tried b u) (view tokens a s))) (stack-kept a b (s .stack) h p o)
 
@@ -178,6 +208,14 @@ module _ (g : Setting) (due : Bool) (line r p : ℕ) (n : Noted) (m : ParserStat
       ∙ ap (now-tracked line) (sym (track-is r p n m f))
       ∙ when-true (due && not (is-atomic (m .atomicity))) (Ok m) (now-tracked line after) (rw (d, f))
 
+-- The attempts t that were read, put for those of the state, u.
+module _ (a : List ℕ) (t u : Attempts) (same : t ≡ u) where
+  pub lent-read : Lent a u → Lent a t
+  lent-read h = rw same h
+
+  pub track-read : (r p : ℕ) (n : Noted) (neg : Bool) (w : Track) → w ≡ within (tracked r p n neg (tried a t)) → w ≡ within (tracked r p n neg (tried a u))
+  track-read r p n neg w h = rw same at h
+
 -- ── `rule` is its leaves ──
 module _ (g : Setting) (line r : ℕ) where
   -- The start, then the body and the end of it: `f` is the body, and what is noted is noted before the start.
@@ -210,13 +248,3 @@ module _ (g : Setting) (line r : ℕ) where
       go true false = refl
       go false true = refl
       go false false = refl
-
-  -- The end, by how the body ended: tracking, then the End, or the queue cut back.
-  module _ (p i pi ni prev : ℕ) (m : ParserState) where
-    pub rule-end-ok : Pest.rule-end g true line r p i pi ni prev (Ok m)
-        ≡ on-ok (tracking g true (is-negative (m .lookahead)) line r p pi ni prev m (λ t. Ok t)) (λ t. close-rule g true line r i t)
-    rule-end-ok = tracking-then (is-negative (m .lookahead)) p pi ni prev m (λ t. close-rule g true line r i t)
-
-    pub rule-end-err : Pest.rule-end g true line r p i pi ni prev (Err m)
-        ≡ on-ok (tracking g true (not (is-negative (m .lookahead))) line r p pi ni prev m (λ t. Ok t)) (λ t. Err (dropped i t))
-    rule-end-err = tracking-then (not (is-negative (m .lookahead))) p pi ni prev m (λ t. Err (dropped i t))

@@ -2,21 +2,25 @@
 -- what holds of every state of a run.
 use mathlib.Core.Path.{_≡_, refl, sym, ap, ap₂, _∙_, subst}
 use mathlib.Core.Bool.{true}
-use mathlib.Core.List.{List}
+use mathlib.Core.List.{List, []}
 use mathlib.Core.Option.{Option, none, some}
-use Prim.Native.Nat.{ℕ, zero, suc, _+_, _*_, _≤_}
+use Prim.Native.Nat.{ℕ, zero, suc, _*_, _≤_}
 use native.Mathlib.Omega.{arith}
 use lib.ListN.{length}
 use borrow.Author.Tests.{lt-ltb}
+use Rattle.reading.specs.declared.parser_state.Lookahead.the-variants.{None}
+use Rattle.reading.specs.declared.parser_state.Atomicity.the-variants.{NonAtomic}
+use Rattle.reading.specs.declared.parser_state.Cause.the-variants.{EmptyStack}
+use Rattle.engine.specs.declared.call_limit_tracker.LimitReached.the-variants.{No}
 use Rattle.engine.specs.declared.grammar.Refused.the-variants.{By}
-use Rattle.engine.specs.declared.parser_state.ParserState as State
+use Rattle.engine.specs.Fields as State
 use Rattle.engine.specs.declared.parser_state.Ending as Declared
 use Rattle.engine.specs.declared.parser_state.Ending.the-variants as Code
 use Rattle.reading.specs.Ending.{Ending, Ok, Err, Stop}
 use Rattle.reading.specs.Grammar.{line-count, tree-at, root}
 use Rattle.reading.specs.Pest as Pest
-use Rattle.reading.specs.Pest.{ParserState}
-use Rattle.engine.specs.Areas.{positives-at, negatives-at, scratch-size, limit-of, view, view-end}
+use Rattle.reading.specs.Pest.{ParserState, CallLimit}
+use Rattle.engine.specs.Areas.{numbers, pairs, queue-of, positives-at, negatives-at, limit-of, view, view-end}
 use Rattle.reading.specs.Fit.{Fit}
 use Rattle.engine.specs.Refusals.{refused-of}
 use Rattle.reading.specs.Outcome.{Input, Refusal, refusal, refused, capacity, setting, reading, answer, Answer, Outcome, laid, started, outcome}
@@ -24,7 +28,6 @@ use Rattle.reading.specs.Answer.{pest-answer}
 use Rattle.engine.specs.Conclude.{Concluding, ConcludeReady}
 use Rattle.engine.specs.Evaluation.{Ready, Line, evaluated}
 use Rattle.reading.specs.Run.{Ran}
-use Rattle.reading.proofs.QueueLaws.{top}
 use Rattle.engine.proofs.Regions.{numbers-length}
 use Rattle.engine.proofs.TokenLaws.{queue-length}
 use Rattle.reading.proofs.Invariant.{Keeps, keeps-ok, keeps-err, keeps-stop, eval-keeps}
@@ -35,9 +38,26 @@ use Rattle.reading.proofs.Runs.{tested, root-literals, root-steady, run-alike}
 use Rattle.reading.proofs.Runs.{outcome-is}
 
 -- A call limit of 0 is none.
-pub limit-is : (l : ℕ) → limit-of 0 l ≡ Pest.new l .call-tracker .current-call-limit
+limit-is : (l : ℕ) → limit-of 0 l ≡ Pest.new l .call-tracker .current-call-limit
 limit-is zero = refl
 limit-is (suc l) = rw (lt-ltb 0 (suc l) (omega arith))
+
+-- The first state: empty lists, whatever the areas hold. Its cause is any: it stands for nothing until a stop.
+abbrev first : ℕ → State.ParserState
+first l = record {
+  position = record { 0 = 0 };
+  queue = record { 0 = 0 };
+  attempts = record { furthest = record { 0 = 0 }; positives = 0; negatives = 0 };
+  stack = record { height = 0; popped = 0; checkpoints = 0 };
+  tracker = record { current = 0; limit = l; reached = No };
+  lookahead = None;
+  atomicity = NonAtomic;
+  cause = EmptyStack 0;
+}
+
+pub first-is : (l : ℕ) (tokens scratch : List ℕ) → view tokens scratch (first l) ≡ Pest.new l
+unfolding numbers pairs queue-of
+first-is l tokens scratch = ap (λ (x : Option CallLimit). record { position = 0; queue = []; lookahead = None; pos-attempts = []; neg-attempts = []; attempt-pos = 0; atomicity = NonAtomic; stack = record { cache = []; popped = []; lengths = [] }; call-tracker = record { current-call-limit = x; limit-reached = none } }) (limit-is l)
 
 -- ── A refused run ──
 pub refused-is : (i : Input) (n p : ℕ) → By n p ≡ refused-of (refusal i) → Ran i (refused i (record { number = n; place = p }))
@@ -121,14 +141,14 @@ module _ (i : Input) (e : refusal i ≡ none) where
       };
     }
 
-    pub concludable : (r : Declared.Ending) → view-end tokens scratch r ≡ ran → ConcludeReady tokens scratch (i .report) r
-    concludable r h = go r (subst FitEnd (sym h) ran-fits)
+    pub concludable : (t : State.ParserState) (r : Declared.Ending) → view-end tokens scratch t r ≡ ran → ConcludeReady tokens scratch (i .report) t r
+    concludable t r h = go r (subst FitEnd (sym h) ran-fits)
       where
-        go : (r : Declared.Ending) → FitEnd (view-end tokens scratch r) → ConcludeReady tokens scratch (i .report) r
-        go (Code.Ok t) f = concluding t f
-        go (Code.Err t) f = concluding t f
-        go (Code.Stop c) f = tt
+        go : (r : Declared.Ending) → FitEnd (view-end tokens scratch t r) → ConcludeReady tokens scratch (i .report) t r
+        go Code.Ok f = concluding t f
+        go Code.Err f = concluding t f
+        go Code.Stop f = tt
 
-    pub run-is : (o : Outcome) (r : Declared.Ending) → view-end tokens scratch r ≡ ran → o ≡ laid (length tokens) (length (i .report)) (pest-answer (view-end tokens scratch r)) → Ran i o
-    run-is o r h q =
+    pub run-is : (o : Outcome) (t : State.ParserState) (r : Declared.Ending) → view-end tokens scratch t r ≡ ran → o ≡ laid (length tokens) (length (i .report)) (pest-answer (view-end tokens scratch t r)) → Ran i o
+    run-is o t r h q =
         record { is = q ∙ ap₂ (λ (n : ℕ) (a : Answer). laid n (length (i .report)) a) same (ap pest-answer h ∙ sym (run-alike i e)) ∙ sym (outcome-is i e) }

@@ -1,15 +1,18 @@
 -- Walks by the left sides of kinds 6 and 7: they lead to lower lines, so a walk ends, and each of its lines is one of the grammar's.
 use mathlib.Core.Path.{_≡_, refl, sym, ap, subst, _∙_}
-use mathlib.Core.Logic.{_⊎_, inl, inr}
+use mathlib.Core.Bool.{true, false, true≢false}
+use mathlib.Core.Logic.{inl, inr}
 use mathlib.Core.List.{List}
 use Prim.Native.Nat.{ℕ, zero, suc, _+_, _*_, _≤_, _<_}
 use native.Mathlib.Decide.{decLe}
 use native.Mathlib.Numerals.{add-one}
 use native.Mathlib.Omega.{arith}
+use lib.Dec.{eqb}
 use lib.IntN.{ℤ}
+use borrow.Author.Tests.{eqb-true, eqb-false}
 use lib.ListN.{length}
 use Rattle.engine.specs.declared.node.Line.{Line}
-use Rattle.reading.specs.Grammar.{node-at, kind-at, line-count}
+use Rattle.reading.specs.Grammar.{node-at, kind-at}
 use Rattle.engine.specs.Lines.{line-of}
 use Rattle.engine.specs.Spine.{left-of, Fork, spine-line, Forks, Slopes, Spined}
 
@@ -23,6 +26,17 @@ fork-of k lo hi = go (decLe k 6)
 pub no-fork : (k : ℕ) → (6 ≤ k → k ≤ 7 → ⊥) → Fork k → ⊥
 no-fork k f (inl e) = f (omega arith) (omega arith)
 no-fork k f (inr e) = f (omega arith) (omega arith)
+
+-- The test for a fork.
+pub six-forks : (k : ℕ) → k ≡ 6 → (true ≡ true → Fork k) × (true ≡ false → Fork k → ⊥)
+six-forks k e = (λ _. inl e, λ f _. true≢false f)
+
+pub seven-forks : (k : ℕ) → (k ≡ 6 → ⊥) → (eqb k 7 ≡ true → Fork k) × (eqb k 7 ≡ false → Fork k → ⊥)
+seven-forks k n = (λ e. inr (eqb-true k 7 e), none)
+  where
+    none : eqb k 7 ≡ false → Fork k → ⊥
+    none e (inl f) = n f
+    none e (inr f) = eqb-false k 7 e f
 
 module _ (ns : List ℤ) (top : ℕ) where
   pub spine-first : top ≡ spine-line ns top 0

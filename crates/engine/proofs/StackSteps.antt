@@ -18,7 +18,7 @@ use Rattle.reading.specs.Pest.{snapshot, clear-snapshot, restore, truncate}
 use Rattle.engine.specs.Areas.{pairs, span, checkpoint, stack-of, Outside}
 use Rattle.engine.specs.Pairs.{pair, put, drained, refilled}
 use Rattle.engine.specs.Bounded.{Push, kept, Take, got, empty, pushed, taken, taken-from}
-use Rattle.reading.specs.Sound.{Fits, fits-none, fits-one, Sound}
+use Rattle.reading.specs.Sound.{Fits, fits-one}
 use Rattle.engine.specs.StackReady.{StackReady, OutsideStack}
 use Rattle.reading.proofs.StackLaws.{pest}
 use Rattle.reading.proofs.SoundLaws.{fits-high}

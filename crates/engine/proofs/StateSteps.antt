@@ -27,27 +27,22 @@ use Rattle.engine.specs.declared.stack.Pushed.{Pushed}
 use Rattle.engine.specs.declared.stack.Popped.{Popped}
 use Rattle.engine.specs.declared.stack_match.Index.{Index}
 use Rattle.engine.specs.declared.stack_match.MatchPopped.{MatchPopped}
-use Rattle.engine.specs.declared.parser_state.ParserState.{ParserState}
+use Rattle.engine.specs.Fields as Fields
+use Rattle.engine.specs.Fields.{ParserState}
+use Rattle.reading.specs.declared.parser_state.Cause.{Cause}
 use Rattle.reading.specs.declared.parser_state.Cause.the-variants.{EmptyStack, StackFull}
 use Rattle.reading.specs.Ending.{if_then_else_, Ending, Ok, Err, Stop, stop-if, Span}
 use Rattle.reading.specs.Reading.{debt}
 use Rattle.reading.specs.Pest.{set-position, set-stack, push, pop, as-str, moved, stack-pop, stack-match-pop, stack-match-peek-slice, normalize-index, normalize-end, slice, all-match}
-use Rattle.engine.specs.Areas.{span, checkpoint, stack-of, view, view-end}
+use Rattle.engine.specs.Areas.{span, stack-of, view, view-end}
 use Rattle.engine.specs.Bounded.{Push, kept, Take, got, pushed, taken, taken-from, push-of, take-of}
 use Rattle.reading.specs.Sound.{Sound}
-use Rattle.engine.specs.StackReady.{StateReady, OutsideStack}
+use Rattle.engine.specs.StackReady.{StackReady, StateReady, OutsideStack}
 use Rattle.engine.specs.StackMatch.{match-of, index-of, match-end}
 use Rattle.engine.proofs.Regions.{pairs-length, numbers-length}
 use Rattle.engine.proofs.ReadyLaws.{positives-kept, negatives-kept, ready-of}
 use Rattle.engine.proofs.Matching.{match-string-same}
 use Rattle.engine.proofs.PopMatch.{Took, took}
-
--- ── The code's states ──
-abbrev pub with-stack : Stack → ParserState → ParserState
-with-stack w s = record { position = s .position; queue = s .queue; lookahead = s .lookahead; atomicity = s .atomicity; attempts = s .attempts; stack = w; tracker = s .tracker }
-
-abbrev pub with-position : BytePosition → ParserState → ParserState
-with-position p s = record { position = p; queue = s .queue; lookahead = s .lookahead; atomicity = s .atomicity; attempts = s .attempts; stack = s .stack; tracker = s .tracker }
 
 -- What the cycle asks of a state, from what holds of pest's.
 pub state-ready : (tokens a : List ℕ) (s : ParserState) → 4864 ≤ length a → Sound (view tokens a s .stack) → length (view tokens a s .stack .lengths) ≤ 1024
@@ -72,18 +67,27 @@ with-parts m ps ns v = record {
   call-tracker = m .call-tracker;
 }
 
-module _ {a b : List ℕ} {s : ParserState} (r : StateReady a s) (o : OutsideStack a b) where
-  pub view-stack : (w : Stack) (v : Pest.Stack) → stack-of b w ≡ v → (tokens : List ℕ) → view tokens b (with-stack w s) ≡ set-stack v (view tokens a s)
-  view-stack w v e tokens = λ i. with-parts (view tokens a s) (positives-kept a b o (s .attempts .positives) (r .positives) i) (negatives-kept a b o (s .attempts .negatives) (r .negatives) i) (e i)
+module _ {a b : List ℕ} {s t : ParserState} (r : StateReady a s) (o : OutsideStack a b) where
+  view-stack : (w : Stack) (v : Pest.Stack) → stack-of b w ≡ v → t ≡ Fields.set-stack w s → (tokens : List ℕ) → view tokens b t ≡ set-stack v (view tokens a s)
+  view-stack w v e et tokens =
+      ap (view tokens b) et
+      ∙ (λ i. with-parts (view tokens a s) (positives-kept a b o (s .attempts .positives) (r .positives) i) (negatives-kept a b o (s .attempts .negatives) (r .negatives) i) (e i))
+
+-- v is the stack that the code read.
+pub stack-read : {a : List ℕ} {s : ParserState} {v : Stack} → v ≡ s .stack → StateReady a s → StackReady a v
+stack-read e r = rw e (r .stack)
+
+pub position-read : {y p : BytePosition} {n : ℕ} → y ≡ p → p .0 ≤ n → y .0 ≤ n
+position-read e l = rw e l
 
 -- checkpoint, checkpoint_ok, restored
-pub stack-changed : {a b : List ℕ} {s : ParserState} (w : Stack) (v : Pest.Stack) → StateReady a s → (stack-of b w ≡ v) × OutsideStack a b
-    → ((tokens : List ℕ) → view tokens b (with-stack w s) ≡ set-stack v (view tokens a s)) × OutsideStack a b
-stack-changed w v r e = (view-stack r (e .1) w v (e .0), e .1)
+pub stack-changed : (f : Pest.Stack → Pest.Stack) {a b : List ℕ} {s t : ParserState} {v : Stack} (w : Stack) → StateReady a s → v ≡ s .stack → (stack-of b w ≡ f (stack-of a v)) × OutsideStack a b
+    → t ≡ Fields.set-stack w s → ((tokens : List ℕ) → view tokens b t ≡ set-stack (f (stack-of a (s .stack))) (view tokens a s)) × OutsideStack a b
+stack-changed f {a} {b} {s} w r ev e et = (view-stack r (e .1) w (f (stack-of a (s .stack))) (e .0 ∙ ap (λ (u : Stack). f (stack-of a u)) ev) et, e .1)
 
 -- ── moved ──
-pub moved-at : (m : Matched) (p : BytePosition) (s : ParserState) → m ≡ Matched.At p → (tokens scratch : List ℕ) → Ok (view tokens scratch (with-position p s)) ≡ moved (match-of m) (view tokens scratch s)
-moved-at m p s e tokens scratch = rw e
+pub moved-at : (m : Matched) (p : BytePosition) (s t : ParserState) → m ≡ Matched.At p → t ≡ Fields.set-position p s → (tokens scratch : List ℕ) → Ok (view tokens scratch t) ≡ moved (match-of m) (view tokens scratch s)
+moved-at m p s t e et tokens scratch = rw (e, et)
 
 pub moved-not : (m : Matched) (s : ParserState) → m ≡ Matched.Failed → (tokens scratch : List ℕ) → Err (view tokens scratch s) ≡ moved (match-of m) (view tokens scratch s)
 moved-not m s e tokens scratch = rw e
@@ -92,24 +96,33 @@ matched-back : (o : Option ℕ) → match-of (matched o) ≡ o
 matched-back none = refl
 matched-back (some p) = refl
 
--- ── stack_push ──
-module _ {a b : List ℕ} {s : ParserState} (r : StateReady a s) (x y : ℕ) (p : Pushed) (e : (push-of b p ≡ pushed (span x y) (stack-of a (s .stack))) × OutsideStack a b) (line : ℕ) where
-  abbrev after : Pest.Stack
-  after = push (span x y) (stack-of a (s .stack))
+-- A stop that the code wrote.
+pub stopping : (b : List ℕ) (s : ParserState) (z : Code·ending.Ending) {c : Cause} {f : List ℕ → Ending Pest.ParserState} {o : Type 0} → ((tokens scratch : List ℕ) → view-end tokens scratch s z ≡ Stop c)
+    → ((tokens : List ℕ) → Stop c ≡ f tokens) × o → ((tokens : List ℕ) → view-end tokens b s z ≡ f tokens) × o
+stopping b s z h e = (λ tokens. h tokens b ∙ e .0 tokens, e .1)
 
-  pub push-kept : (w : Stack) → p ≡ Pushed.Kept w
-      → ((tokens : List ℕ) → Ok (view tokens b (with-stack w s)) ≡ stop-if (leb 128 (length (stack-of a (s .stack) .cache))) (StackFull line) (λ _. Ok (set-stack after (view tokens a s)))) × OutsideStack a b
-  push-kept w f = (λ tokens. go tokens (leb 128 (length (stack-of a (s .stack) .cache))) (rw f at (e .0)), e .1)
+-- ── stack_push ──
+module _ {a b : List ℕ} {s : ParserState} (r : StateReady a s) {v : Stack} (ev : v ≡ s .stack) {y : BytePosition} (ey : y ≡ s .position)
+    (x : ℕ) (p : Pushed) (e : (push-of b p ≡ pushed (span x (y .0)) (stack-of a v)) × OutsideStack a b) (line : ℕ) where
+  abbrev after : Pest.Stack
+  after = push (span x (s .position .0)) (stack-of a (s .stack))
+
+  said : push-of b p ≡ pushed (span x (s .position .0)) (stack-of a (s .stack))
+  said = e .0 ∙ ap₂ (λ (u : Stack) (n : BytePosition). pushed (span x (n .0)) (stack-of a u)) ev ey
+
+  pub push-kept : (w : Stack) → p ≡ Pushed.Kept w → {t : ParserState} → t ≡ Fields.set-stack w s
+      → ((tokens : List ℕ) → Ok (view tokens b t) ≡ stop-if (leb 128 (length (stack-of a (s .stack) .cache))) (StackFull line) (λ _. Ok (set-stack after (view tokens a s)))) × OutsideStack a b
+  push-kept w f {t} et = (λ tokens. go tokens (leb 128 (length (stack-of a (s .stack) .cache))) (rw f at said), e .1)
     where
-      go : (tokens : List ℕ) (t : Bool) → kept (stack-of b w) ≡ (if t then Push.full else kept after) → Ok (view tokens b (with-stack w s)) ≡ stop-if t (StackFull line) (λ _. Ok (set-stack after (view tokens a s)))
+      go : (tokens : List ℕ) (b₀ : Bool) → kept (stack-of b w) ≡ (if b₀ then Push.full else kept after) → Ok (view tokens b t) ≡ stop-if b₀ (StackFull line) (λ _. Ok (set-stack after (view tokens a s)))
       go tokens true q = let z : _≡_ {A = ℕ} 0 1 = cc in absurd (omega arith)
-      go tokens false q = let v : stack-of b w ≡ after = cc in ap Ok (view-stack r (e .1) w after v tokens)
+      go tokens false q = let u : stack-of b w ≡ after = cc in ap Ok (view-stack r (e .1) w after u et tokens)
 
   pub push-stopped : p ≡ Pushed.Full
       → ((tokens : List ℕ) → Stop (StackFull line) ≡ stop-if (leb 128 (length (stack-of a (s .stack) .cache))) (StackFull line) (λ _. Ok (set-stack after (view tokens a s)))) × OutsideStack a b
-  push-stopped f = (λ tokens. go tokens (leb 128 (length (stack-of a (s .stack) .cache))) (rw f at (e .0)), e .1)
+  push-stopped f = (λ tokens. go tokens (leb 128 (length (stack-of a (s .stack) .cache))) (rw f at said), e .1)
     where
-      go : (tokens : List ℕ) (t : Bool) → Push.full ≡ (if t then Push.full else kept after) → Stop (StackFull line) ≡ stop-if t (StackFull line) (λ _. Ok (set-stack after (view tokens a s)))
+      go : (tokens : List ℕ) (b₀ : Bool) → Push.full ≡ (if b₀ then Push.full else kept after) → Stop (StackFull line) ≡ stop-if b₀ (StackFull line) (λ _. Ok (set-stack after (view tokens a s)))
       go tokens true q = refl
       go tokens false q = let z : _≡_ {A = ℕ} 0 1 = cc in absurd (omega arith)
 
@@ -150,53 +163,63 @@ module _ (text : List ℕ) (line : ℕ) (m : Pest.ParserState) where
           pick (ltb 1024 (debt (pop y rest (m .stack) .lengths))) (pop y rest (m .stack)) y
           (λ _. moved (Pest.match-string text (as-str text y) (m .position)) (set-stack (pop y rest (m .stack)) m)) e
 
-module _ (text : List ℕ) (line : ℕ) {a b : List ℕ} {s : ParserState} (r : StateReady a s) (p : Popped) (e : (take-of b p ≡ taken (stack-of a (s .stack))) × OutsideStack a b) where
-  pub pop-moved : (w : Stack) (x : Code.Span) → p ≡ Popped.Got w x → (bytes : List ℕ) → bytes ≡ bytes-of text (x .start .0) (x .end .0)
-      → (q : Matched) → q ≡ matched (match-string text bytes (s .position .0))
-      → (z : Code·ending.Ending) → ((tokens scratch : List ℕ) → view-end tokens scratch z ≡ moved (match-of q) (view tokens scratch (with-stack w s)))
-      → ((tokens : List ℕ) → view-end tokens b z ≡ stack-pop text true line (stack-of a (s .stack) .cache) (view tokens a s)) × OutsideStack a b
-  pop-moved w x f bytes eb q eq z ez = (
+module _ (text : List ℕ) (line : ℕ) {a b : List ℕ} {s : ParserState} (r : StateReady a s) {v : Stack} (ev : v ≡ s .stack)
+    (p : Popped) (e : (take-of b p ≡ taken (stack-of a v)) × OutsideStack a b) where
+  took-of : take-of b p ≡ taken (stack-of a (s .stack))
+  took-of = e .0 ∙ ap (λ (u : Stack). taken (stack-of a u)) ev
+
+  pub pop-moved : (w : Stack) (x : Code.Span) → p ≡ Popped.Got w x → {t : ParserState} → t ≡ Fields.set-stack w s → (bytes : List ℕ) → bytes ≡ bytes-of text (x .start .0) (x .end .0)
+      → {y : BytePosition} → y ≡ s .position → (q : Matched) → q ≡ matched (match-string text bytes (y .0))
+      → (end : ParserState) (z : Code·ending.Ending) → ((tokens scratch : List ℕ) → view-end tokens scratch end z ≡ moved (match-of q) (view tokens scratch t))
+      → ((tokens : List ℕ) → view-end tokens b end z ≡ stack-pop text true line (stack-of a (s .stack) .cache) (view tokens a s)) × OutsideStack a b
+  pop-moved w x f et bytes eb {y} ey q eq end z ez = (
     λ tokens.
         ez tokens b
         ∙ ap₂ moved
-        (ap match-of eq ∙ matched-back (match-string text bytes (s .position .0)) ∙ sym (match-string-same text bytes (s .position .0)) ∙ ap (λ (l : List ℕ). Pest.match-string text l (s .position .0)) eb)
-        (view-stack r (e .1) w (stack-of b w) refl tokens)
-        ∙ step-got text line (view tokens a s) (stack-of b w) (span (x .start .0) (x .end .0)) (took (stack-of a (s .stack)) (stack-of b w) (span (x .start .0) (x .end .0)) (sym (rw f at (e .0)))),
+        (ap match-of eq ∙ matched-back (match-string text bytes (y .0)) ∙ sym (match-string-same text bytes (y .0)) ∙ ap₂ (λ (l : List ℕ) (n : BytePosition). Pest.match-string text l (n .0)) eb ey)
+        (view-stack r (e .1) w (stack-of b w) refl et tokens)
+        ∙ step-got text line (view tokens a s) (stack-of b w) (span (x .start .0) (x .end .0)) (took (stack-of a (s .stack)) (stack-of b w) (span (x .start .0) (x .end .0)) (sym (rw f at took-of))),
     e .1,
   )
 
   pub pop-stopped : p ≡ Popped.Empty → ((tokens : List ℕ) → Stop (EmptyStack line) ≡ stack-pop text true line (stack-of a (s .stack) .cache) (view tokens a s)) × OutsideStack a b
-  pop-stopped f = (λ tokens. step-empty text line (view tokens a s) (rw f at (e .0)), e .1)
+  pop-stopped f = (λ tokens. step-empty text line (view tokens a s) (rw f at took-of), e .1)
 
   pub pop-indebted : p ≡ Popped.Full → ((tokens : List ℕ) → Stop (StackFull line) ≡ stack-pop text true line (stack-of a (s .stack) .cache) (view tokens a s)) × OutsideStack a b
-  pop-indebted f = (λ tokens. step-full text line (view tokens a s) (rw f at (e .0)), e .1)
+  pop-indebted f = (λ tokens. step-full text line (view tokens a s) (rw f at took-of), e .1)
 
 -- ── stack_match_pop ──
-module _ (text : List ℕ) (line : ℕ) {a b : List ℕ} {s : ParserState} (r : StateReady a s) (p : MatchPopped)
-    (e : ((l : ℕ) → (m : Pest.ParserState) → match-end b l m p ≡ stack-match-pop text true l (stack-of a (s .stack) .cache) (s .position .0) (set-stack (stack-of a (s .stack)) m)) × OutsideStack a b) where
-  pub popped-all : (w : Stack) (q : BytePosition) → p ≡ MatchPopped.Matched w q
-      → ((tokens : List ℕ) → Ok (view tokens b (with-position q (with-stack w s))) ≡ stack-match-pop text true line (stack-of a (s .stack) .cache) (s .position .0) (view tokens a s)) × OutsideStack a b
-  popped-all w q f = (
+module _ (text : List ℕ) (line : ℕ) {a b : List ℕ} {s : ParserState} (r : StateReady a s) {v : Stack} (ev : v ≡ s .stack) {y : BytePosition} (ey : y ≡ s .position) (p : MatchPopped)
+    (e : ((l : ℕ) → (m : Pest.ParserState) → match-end b l m p ≡ stack-match-pop text true l (stack-of a v .cache) (y .0) (set-stack (stack-of a v) m)) × OutsideStack a b) where
+  ends : (tokens : List ℕ) → match-end b line (view tokens a s) p ≡ stack-match-pop text true line (stack-of a (s .stack) .cache) (s .position .0) (view tokens a s)
+  ends tokens =
+      e .0 line (view tokens a s)
+      ∙ ap₂ (λ (u : Stack) (n : BytePosition). stack-match-pop text true line (stack-of a u .cache) (n .0) (set-stack (stack-of a u) (view tokens a s))) ev ey
+
+  pub popped-all : (w : Stack) (q : BytePosition) → p ≡ MatchPopped.Matched w q → {t : ParserState} → t ≡ Fields.set-stack w s → {u : ParserState} → u ≡ Fields.set-position q t
+      → ((tokens : List ℕ) → Ok (view tokens b u) ≡ stack-match-pop text true line (stack-of a (s .stack) .cache) (s .position .0) (view tokens a s)) × OutsideStack a b
+  popped-all w q f et eu = (
     λ tokens.
-        ap (λ (m : Pest.ParserState). Ok (set-position (q .0) m)) (view-stack r (e .1) w (stack-of b w) refl tokens)
+        ap (λ (u : ParserState). Ok (view tokens b u)) eu
+        ∙ ap (λ (m : Pest.ParserState). Ok (set-position (q .0) m)) (view-stack r (e .1) w (stack-of b w) refl et tokens)
         ∙ sym (ap (match-end b line (view tokens a s)) f)
-        ∙ e .0 line (view tokens a s),
+        ∙ ends tokens,
     e .1,
   )
 
-  pub popped-some : (w : Stack) → p ≡ MatchPopped.Failed w
-      → ((tokens : List ℕ) → Err (view tokens b (with-stack w s)) ≡ stack-match-pop text true line (stack-of a (s .stack) .cache) (s .position .0) (view tokens a s)) × OutsideStack a b
-  popped-some w f = (
+  pub popped-some : (w : Stack) → p ≡ MatchPopped.Failed w → {t : ParserState} → t ≡ Fields.set-stack w s
+      → ((tokens : List ℕ) → Err (view tokens b t) ≡ stack-match-pop text true line (stack-of a (s .stack) .cache) (s .position .0) (view tokens a s)) × OutsideStack a b
+  popped-some w f et = (
     λ tokens.
-        ap Err (view-stack r (e .1) w (stack-of b w) refl tokens)
+        ap Err (view-stack r (e .1) w (stack-of b w) refl et tokens)
         ∙ sym (ap (match-end b line (view tokens a s)) f)
-        ∙ e .0 line (view tokens a s),
+        ∙ ends tokens,
     e .1,
   )
 
   pub popped-indebted : p ≡ MatchPopped.Full
       → ((tokens : List ℕ) → Stop (StackFull line) ≡ stack-match-pop text true line (stack-of a (s .stack) .cache) (s .position .0) (view tokens a s)) × OutsideStack a b
-  popped-indebted f = (λ tokens. sym (ap (match-end b line (view tokens a s)) f) ∙ e .0 line (view tokens a s), e .1)
+  popped-indebted f = (λ tokens. sym (ap (match-end b line (view tokens a s)) f) ∙ ends tokens, e .1)
 
 -- ── stack_match_peek_slice ──
 index-at : (o : Option ℕ) (r : Index) (n : ℕ) → r ≡ index-of o → r ≡ Index.At n → o ≡ some n
@@ -266,37 +289,41 @@ module _ (text : List ℕ) (i : ℤ) (j : Option ℤ) (d : Bool) (m : Pest.Parse
 abbrev pub end-of : (c : ℕ) → (b : ℤ) → Option ℤ
 end-of c b = if ltb c 2 then some b else none
 
-module _ (text a : List ℕ) (i b : ℤ) (c : ℕ) (s : ParserState) (r : Index) (er : r ≡ index-of (normalize-index i (s .stack .height))) where
-  tall : (tokens : List ℕ) → length (view tokens a s .stack .cache) ≡ s .stack .height
-  tall tokens = pairs-length span a 0 (s .stack .height)
+module _ (text a : List ℕ) (i b : ℤ) (c : ℕ) (s : ParserState) (v : Stack) (ev : v ≡ s .stack) (r : Index) (er : r ≡ index-of (normalize-index i (v .height))) where
+  tall : (tokens : List ℕ) → length (view tokens a s .stack .cache) ≡ v .height
+  tall tokens = pairs-length span a 0 (s .stack .height) ∙ sym (ap (λ (u : Stack). u .height) ev)
 
   abbrev down : Bool
   down = eqb c 1 || eqb c 3
 
   pub start-out : r ≡ Index.Outside → (tokens : List ℕ) → Err (view tokens a s) ≡ stack-match-peek-slice text i (end-of c b) down (view tokens a s)
-  start-out f tokens = peek-start-out text i (end-of c b) down (view tokens a s) (s .stack .height) (tall tokens) (index-out (normalize-index i (s .stack .height)) r er f)
+  start-out f tokens = peek-start-out text i (end-of c b) down (view tokens a s) (v .height) (tall tokens) (index-out (normalize-index i (v .height)) r er f)
 
-  module _ (start : ℕ) (f : r ≡ Index.At start) (r₂ : Index) (er₂ : r₂ ≡ index-of (normalize-end (end-of c b) (s .stack .height))) where
-    start-is : normalize-index i (s .stack .height) ≡ some start
-    start-is = index-at (normalize-index i (s .stack .height)) r start er f
+  module _ (start : ℕ) (f : r ≡ Index.At start) (r₂ : Index) (er₂ : r₂ ≡ index-of (normalize-end (end-of c b) (v .height))) where
+    start-is : normalize-index i (v .height) ≡ some start
+    start-is = index-at (normalize-index i (v .height)) r start er f
 
     pub end-out : r₂ ≡ Index.Outside → (tokens : List ℕ) → Err (view tokens a s) ≡ stack-match-peek-slice text i (end-of c b) down (view tokens a s)
     end-out g tokens =
-        peek-end-out text i (end-of c b) down (view tokens a s) (s .stack .height) (tall tokens) start start-is (index-out (normalize-end (end-of c b) (s .stack .height)) r₂ er₂ g)
+        peek-end-out text i (end-of c b) down (view tokens a s) (v .height) (tall tokens) start start-is (index-out (normalize-end (end-of c b) (v .height)) r₂ er₂ g)
 
     module _ (end : ℕ) (g : r₂ ≡ Index.At end) where
-      end-is : normalize-end (end-of c b) (s .stack .height) ≡ some end
-      end-is = index-at (normalize-end (end-of c b) (s .stack .height)) r₂ end er₂ g
+      end-is : normalize-end (end-of c b) (v .height) ≡ some end
+      end-is = index-at (normalize-end (end-of c b) (v .height)) r₂ end er₂ g
 
-      pub end-below : end ≤ s .stack .height
-      end-below = end-inside (end-of c b) (s .stack .height) end end-is
+      pub end-below : end ≤ v .height
+      end-below = end-inside (end-of c b) (v .height) end end-is
 
       pub slice-empty : end ≤ start → (tokens : List ℕ) → Ok (view tokens a s) ≡ stack-match-peek-slice text i (end-of c b) down (view tokens a s)
-      slice-empty l tokens = peek-nothing text i (end-of c b) down (view tokens a s) (s .stack .height) (tall tokens) start start-is end end-is l
+      slice-empty l tokens = peek-nothing text i (end-of c b) down (view tokens a s) (v .height) (tall tokens) start start-is end end-is l
 
-      pub slice-moved : start < end → (d : Bool) → d ≡ down → (q : Matched) → q ≡ matched (all-match text (slice start end d (stack-of a (s .stack) .cache)) (s .position .0))
-          → (z : Code·ending.Ending) → ((tokens scratch : List ℕ) → view-end tokens scratch z ≡ moved (match-of q) (view tokens scratch s))
-          → (tokens : List ℕ) → view-end tokens a z ≡ stack-match-peek-slice text i (end-of c b) down (view tokens a s)
-      slice-moved l d ed q eq z ez tokens =
+      pub slice-moved : start < end → (d : Bool) → d ≡ down → {y : BytePosition} → y ≡ s .position
+          → (q : Matched) → q ≡ matched (all-match text (slice start end d (stack-of a v .cache)) (y .0))
+          → (t : ParserState) (z : Code·ending.Ending) → ((tokens scratch : List ℕ) → view-end tokens scratch t z ≡ moved (match-of q) (view tokens scratch s))
+          → (tokens : List ℕ) → view-end tokens a t z ≡ stack-match-peek-slice text i (end-of c b) down (view tokens a s)
+      slice-moved l d ed {y} ey q eq t z ez tokens =
           ez tokens a
-          ∙ peek-moved text i (end-of c b) down (view tokens a s) (s .stack .height) (tall tokens) start start-is end end-is l q (eq ∙ ap (λ (t : Bool). matched (all-match text (slice start end t (stack-of a (s .stack) .cache)) (s .position .0))) ed)
+          ∙ peek-moved text i (end-of c b) down (view tokens a s) (v .height) (tall tokens) start start-is end end-is l q
+          (eq
+          ∙ ap (λ (o : Bool). matched (all-match text (slice start end o (stack-of a v .cache)) (y .0))) ed
+          ∙ ap₂ (λ (u : Stack) (n : BytePosition). matched (all-match text (slice start end down (stack-of a u .cache)) (n .0))) ev ey)

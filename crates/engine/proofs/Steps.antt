@@ -1,7 +1,7 @@
 -- One step of the evaluation at a time: an entry that is refused or open, what is ready for the body, and what its ending is ready for.
 -- Each member of the cycle cites these; what differs between them is the tree and what the combinator makes of an ending.
 use mathlib.Core.Path.{_≡_, refl, sym, ap, ap₂, subst, _∙_}
-use mathlib.Core.Bool.{Bool, true, false, _&&_, not}
+use mathlib.Core.Bool.{Bool, true, false, _&&_, not, true≢false, false≢true}
 use mathlib.Core.List.{List, [], _∷_, _++_}
 use Prim.Native.Nat.{ℕ, zero, suc, _+_, _-_, _*_, _≤_, _<_}
 use native.Mathlib.Omega.{arith}
@@ -10,16 +10,16 @@ use lib.IntN.{ℤ}
 use borrow.Author.Tests.{lt-ltb}
 use lib.ListN.{length, length-append}
 use Rattle.matching.specs.declared.position.BytePosition.{BytePosition}
+use Rattle.matching.specs.declared.position.TokenIndex.{TokenIndex}
 use Rattle.reading.specs.declared.parser_state.Lookahead.{Lookahead}
 use Rattle.reading.specs.declared.parser_state.Atomicity.{Atomicity}
 use Rattle.reading.specs.declared.parser_state.Cause.{Cause}
 use Rattle.reading.specs.declared.parser_state.Cause.the-variants as Cause-of
 use Rattle.reading.specs.declared.call_limit_tracker.LimitKind.the-variants as LimitKind
 use Rattle.engine.specs.declared.attempts.Noted.{Noted}
-use Rattle.engine.specs.declared.parser_state.ParserState as Code
+use Rattle.engine.specs.Fields as Code
 use Rattle.engine.specs.declared.parser_state.Ending as Coded
 use Rattle.engine.specs.declared.parser_state.Ending.the-variants as Coded-of
-use Rattle.engine.specs.declared.entry.Entry as Door
 use Rattle.reading.specs.Ending.{if_then_else_, Ending, Ok, Err, Stop, on-ok, stop-if}
 use Rattle.reading.specs.Grammar as Grammar
 use Rattle.reading.specs.Grammar.{Exp, tree-at}
@@ -46,11 +46,29 @@ use Rattle.engine.proofs.RuleLaws.{rule-is}
 use Rattle.reading.proofs.Accepted.{Accepted, accepted, tree-literals, body-literals, tree-still, tree-steady, body-steady, body-closed, rule-still, rule-still-is}
 
 -- What is known of a value is known of the variant that it is.
-pub told : (a b : List ℕ) (r y : Coded.Ending) (x : Ending ParserState) → view-end a b r ≡ x → r ≡ y → view-end a b y ≡ x
-told a b r y x h e = ap (view-end a b) (sym e) ∙ h
+pub told : (a b : List ℕ) (s : Code.ParserState) (r y : Coded.Ending) (x : Ending ParserState) → view-end a b s r ≡ x → r ≡ y → view-end a b s y ≡ x
+told a b s r y x h e = ap (view-end a b s) (sym e) ∙ h
 
-pub told-entry : (r y : Door.Entry) (x : List ℕ → List ℕ → Entry) → ((a b : List ℕ) → view-entry a b r ≡ x a b) → r ≡ y → (a b : List ℕ) → view-entry a b y ≡ x a b
-told-entry r y x h e a b = ap (view-entry a b) (sym e) ∙ h a b
+-- The code's test of an entry: it goes on where the entry is not refused.
+pub opened-by : (r : Bool) (n : ParserState) (x : Entry) → view-entry r n ≡ x → not r ≡ false → opened n ≡ x
+opened-by true n x h e = h
+opened-by false n x h e = absurd (true≢false e)
+
+pub refused-by : (r : Bool) (n : ParserState) (x : Entry) → view-entry r n ≡ x → not r ≡ true → refused n ≡ x
+refused-by true n x h e = absurd (false≢true e)
+refused-by false n x h e = h
+
+pub refused-test : (r : Bool) → not r ≡ true → r ≡ false
+refused-test true e = absurd (false≢true e)
+refused-test false e = refl
+
+pub passed-test : (r : Bool) → not r ≡ false → r ≡ true
+passed-test true e = refl
+passed-test false e = absurd (true≢false e)
+
+-- The state's area keeps its size.
+pub wide-on : {n k : ℕ} → 15 ≤ n → k ≡ n → 15 ≤ k
+wide-on h e = omega arith
 
 -- ── An entry ──
 -- Where no call may open, none does.
@@ -129,8 +147,15 @@ tested-of ns literals text capacity w = record {
 }
 
 -- A checkpoint leaves the queue.
-pub marked-queue : (tokens scratch b : List ℕ) (t u : Code.ParserState) → view tokens b u ≡ Pest.checkpoint (view tokens scratch t) → t .queue .0 ≤ length (queue-of tokens (u .queue .0))
-marked-queue tokens scratch b t u e = omega (arith, ap (λ (x : ParserState). length (x .queue)) e, queue-length tokens (t .queue .0))
+pub marked-queue : (tokens scratch b : List ℕ) (t u : Code.ParserState) → view tokens b u ≡ Pest.checkpoint (view tokens scratch t) → (q : TokenIndex) → q ≡ t .queue → q .0 ≤ length (queue-of tokens (u .queue .0))
+marked-queue tokens scratch b t u e q i = omega (arith, ap (λ (x : ParserState). length (x .queue)) e, queue-length tokens (t .queue .0), ap (λ (x : TokenIndex). x .0) i)
+
+-- How many tokens the queue holds, as the code read it.
+pub held : (tokens : List ℕ) {j q : TokenIndex} → q ≡ j → length (queue-of tokens (j .0)) ≡ q .0
+held tokens {j} i = queue-length tokens (j .0) ∙ ap (λ (x : TokenIndex). x .0) (sym i)
+
+pub placed : {j p : BytePosition} → p ≡ j → j .0 ≡ p .0
+placed i = ap (λ (x : BytePosition). x .0) (sym i)
 
 module _ (ns : List ℤ) (literals text : List ℕ) (capacity : ℕ) where
   abbrev g : Setting
@@ -219,26 +244,26 @@ module _ (ns : List ℤ) (literals text : List ℕ) (capacity : ℕ) where
     grown-after : (s : Code.ParserState) → LeftFrom g m (Ok (view tokens scratch s)) → length (m .queue) ≤ s .queue .0
     grown-after s w = omega (arith, w .grown, queue-length tokens (s .queue .0))
 
-    pub end-ready : (n : ℕ) (r : Coded.Ending) → LeftFrom g m (view-end tokens scratch r) → n ≤ length (m .queue) → EndReady scratch n r
-    end-ready n (Coded-of.Ok s) w h = (ready-after s w, omega (arith, grown-after s w))
-    end-ready n (Coded-of.Err s) w h = (ready-after s w, omega (arith, grown-after s w))
-    end-ready n (Coded-of.Stop c) w h = tt
+    pub end-ready : (n : ℕ) (s : Code.ParserState) (r : Coded.Ending) → LeftFrom g m (view-end tokens scratch s r) → n ≤ length (m .queue) → EndReady scratch n s r
+    end-ready n s Coded-of.Ok w h = (ready-after s w, omega (arith, grown-after s w))
+    end-ready n s Coded-of.Err w h = (ready-after s w, omega (arith, grown-after s w))
+    end-ready n s Coded-of.Stop w h = tt
 
-    pub push-ready : (start : BytePosition) (r : Coded.Ending) → LeftFrom g m (view-end tokens scratch r) → length text ≤ 65535 → start .0 ≤ length text → PushEndReady scratch start r
-    push-ready start (Coded-of.Ok s) w h i = record { state = ready-after s w; from = omega arith; to = omega (arith, w .fit .edge .inside) }
-    push-ready start (Coded-of.Err s) w h i = tt
-    push-ready start (Coded-of.Stop c) w h i = tt
+    pub push-ready : (start : BytePosition) (s : Code.ParserState) (r : Coded.Ending) → LeftFrom g m (view-end tokens scratch s r) → length text ≤ 65535 → start .0 ≤ length text → PushEndReady scratch start s r
+    push-ready start s Coded-of.Ok w h i = record { state = ready-after s w; from = omega arith; to = omega (arith, w .fit .edge .inside) }
+    push-ready start s Coded-of.Err w h i = tt
+    push-ready start s Coded-of.Stop w h i = tt
 
     tracking-after : (s : Code.ParserState) → LeftFrom g m (Ok (view tokens scratch s)) → Tracking scratch s
     tracking-after s w =
         let r : StateReady scratch s = ready-after s w in
         record { lent = record { room = room; few = record { few-positives = r .positives; few-negatives = r .negatives } }; tall = r .stack .tall; owing = r .stack .owing }
 
-    pub rule-ready : (i : ℕ) (r : Coded.Ending) → LeftFrom g m (view-end tokens scratch r) → capacity * 5 ≤ length tokens → capacity ≤ 65535 → length text ≤ 65535 → i ≤ capacity
-        → RuleEndReady tokens scratch capacity i r
-    rule-ready i (Coded-of.Ok s) w area small short h = (record { room = area; most = small; near = omega (arith, w .fit .edge .inside) }, tracking-after s w, h)
-    rule-ready i (Coded-of.Err s) w area small short h = tracking-after s w
-    rule-ready i (Coded-of.Stop c) w area small short h = tt
+    pub rule-ready : (i : ℕ) (s : Code.ParserState) (r : Coded.Ending) → LeftFrom g m (view-end tokens scratch s r) → capacity * 5 ≤ length tokens → capacity ≤ 65535 → length text ≤ 65535 → i ≤ capacity
+        → RuleEndReady tokens scratch capacity i s r
+    rule-ready i s Coded-of.Ok w area small short h = (record { room = area; most = small; near = omega (arith, w .fit .edge .inside) }, tracking-after s w, h)
+    rule-ready i s Coded-of.Err w area small short h = tracking-after s w
+    rule-ready i s Coded-of.Stop w area small short h = tt
 
   -- ── Each combinator: its own words over what the code's parts answer ──
   module _ (d body : ℕ) (m n : ParserState) where
@@ -246,9 +271,9 @@ module _ (ns : List ℤ) (literals text : List ℕ) (capacity : ℕ) where
     B = tree-at ns literals body
 
     pub sequence-step : opened n ≡ entering (ltb 0 d) true m → (u : ParserState) → u ≡ Pest.checkpoint n → (x : Ending ParserState) → x ≡ E (d - 1) B u
-        → (i : ℕ) → length (n .queue) ≡ i → (y : Ending ParserState) → y ≡ Pest.sequence-end i (n .position) x → y ≡ E d (Grammar.sequence B) m
-    sequence-step o u v x w i q y z =
-        z ∙ ap₂ (λ (j : ℕ) (e : Ending ParserState). Pest.sequence-end j (n .position) e) (sym q) (w ∙ ap (E (d - 1) B) v)
+        → (i : ℕ) → length (n .queue) ≡ i → (p : ℕ) → n .position ≡ p → (y : Ending ParserState) → y ≡ Pest.sequence-end i p x → y ≡ E d (Grammar.sequence B) m
+    sequence-step o u v x w i q p h y z =
+        z ∙ ap₂ (λ (j k : ℕ). Pest.sequence-end j k x) (sym q) (sym h) ∙ ap (Pest.sequence-end (length (n .queue)) (n .position)) (w ∙ ap (E (d - 1) B) v)
         ∙ entry-open (Grammar.sequence B) true (λ f k. Pest.sequence (f B) k) (λ room f k. refl) d m n o
 
     pub sequence-refused : refused n ≡ entering (ltb 0 d) true m → Err n ≡ E d (Grammar.sequence B) m
@@ -268,17 +293,18 @@ module _ (ns : List ℤ) (literals text : List ℕ) (capacity : ℕ) where
     pub restore-refused : refused n ≡ entering (ltb 0 d) false m → Err n ≡ E d (Grammar.restore-on-err B) m
     restore-refused o = entry-refused (Grammar.restore-on-err B) false (λ f k. Pest.restore-on-err (f B) k) (λ room f k. refl) d m n o
 
-    pub lookahead-step : (positive : Bool) → opened n ≡ entering (ltb 0 d) true m → (l : Lookahead) → l ≡ Pest.lookahead-in positive (n .lookahead) → (u : ParserState) → u ≡ Pest.checkpoint (Pest.set-lookahead l n)
-        → (x : Ending ParserState) → x ≡ E (d - 1) B u → (y : Ending ParserState) → y ≡ Pest.lookahead-end positive (n .lookahead) (n .position) x → y ≡ E d (Grammar.lookahead positive B) m
-    lookahead-step positive o l q u v x w y z =
-        z ∙ ap (Pest.lookahead-end positive (n .lookahead) (n .position)) (w ∙ ap (E (d - 1) B) (v ∙ ap (λ (j : Lookahead). Pest.checkpoint (Pest.set-lookahead j n)) q))
+    pub lookahead-step : (positive : Bool) → opened n ≡ entering (ltb 0 d) true m → (l : Lookahead) → n .lookahead ≡ l → (u : ParserState) → u ≡ Pest.checkpoint (Pest.set-lookahead (Pest.lookahead-in positive l) n)
+        → (x : Ending ParserState) → x ≡ E (d - 1) B u → (p : ℕ) → n .position ≡ p → (y : Ending ParserState) → y ≡ Pest.lookahead-end positive l p x → y ≡ E d (Grammar.lookahead positive B) m
+    lookahead-step positive o l q u v x w p h y z =
+        z ∙ ap₂ (λ (j : Lookahead) (k : ℕ). Pest.lookahead-end positive j k x) (sym q) (sym h)
+        ∙ ap (Pest.lookahead-end positive (n .lookahead) (n .position)) (w ∙ ap (E (d - 1) B) (v ∙ ap (λ (j : Lookahead). Pest.checkpoint (Pest.set-lookahead (Pest.lookahead-in positive j) n)) (sym q)))
         ∙ entry-open (Grammar.lookahead positive B) true (λ f k. Pest.lookahead positive (f B) k) (λ room f k. refl) d m n o
 
     pub lookahead-refused : (positive : Bool) → refused n ≡ entering (ltb 0 d) true m → Err n ≡ E d (Grammar.lookahead positive B) m
     lookahead-refused positive o = entry-refused (Grammar.lookahead positive B) true (λ f k. Pest.lookahead positive (f B) k) (λ room f k. refl) d m n o
 
-    pub push-step : (line : ℕ) → opened n ≡ entering (ltb 0 d) true m → (x : Ending ParserState) → x ≡ E (d - 1) B n → (y : Ending ParserState) → y ≡ Pest.push-end text true line (n .position) x → y ≡ E d (Grammar.stack-push line B) m
-    push-step line o x w y z = z ∙ ap (Pest.push-end text true line (n .position)) w ∙ entry-open (Grammar.stack-push line B) true (λ f k. Pest.stack-push text true line (f B) k) (λ room f k. refl) d m n o
+    pub push-step : (line : ℕ) → opened n ≡ entering (ltb 0 d) true m → (x : Ending ParserState) → x ≡ E (d - 1) B n → (p : ℕ) → n .position ≡ p → (y : Ending ParserState) → y ≡ Pest.push-end text true line p x → y ≡ E d (Grammar.stack-push line B) m
+    push-step line o x w p h y z = z ∙ ap (λ (k : ℕ). Pest.push-end text true line k x) (sym h) ∙ ap (Pest.push-end text true line (n .position)) w ∙ entry-open (Grammar.stack-push line B) true (λ f k. Pest.stack-push text true line (f B) k) (λ room f k. refl) d m n o
 
     pub push-refused : (line : ℕ) → refused n ≡ entering (ltb 0 d) true m → Err n ≡ E d (Grammar.stack-push line B) m
     push-refused line o = entry-refused (Grammar.stack-push line B) true (λ f k. Pest.stack-push text true line (f B) k) (λ room f k. refl) d m n o
@@ -293,10 +319,10 @@ module _ (ns : List ℤ) (literals text : List ℕ) (capacity : ℕ) where
     atomic-same a b j (Stop c) w = refl
 
     pub atomic-step : (tokens scratch : List ℕ) (a : Atomicity) → opened n ≡ entering (ltb 0 d) true m → R tokens scratch (d - 1) (Pest.set-atomicity a n) → (x : Ending ParserState) → x ≡ E (d - 1) B (Pest.set-atomicity a n)
-        → (y : Ending ParserState) → y ≡ atomic-back (n .atomicity) x → y ≡ E d (Grammar.atomic a B) m
-    atomic-step tokens scratch a o r x w y z =
+        → (b : Atomicity) → n .atomicity ≡ b → (y : Ending ParserState) → y ≡ atomic-back b x → y ≡ E d (Grammar.atomic a B) m
+    atomic-step tokens scratch a o r x w b h y z =
         let t : Bool = not (Pest.same-atomicity (n .atomicity) a) in
-        z ∙ atomic-same a (n .atomicity) n x (kept tokens scratch (d - 1) body (Pest.set-atomicity a n) x r w)
+        z ∙ ap (λ (j : Atomicity). atomic-back j x) (sym h) ∙ atomic-same a (n .atomicity) n x (kept tokens scratch (d - 1) body (Pest.set-atomicity a n) x r w)
         ∙ ap (Pest.atomic-end t (n .atomicity)) (w ∙ ap (E (d - 1) B) (sym (toggled g (n .atomicity) a n refl)))
         ∙ entry-open (Grammar.atomic a B) true (λ f k. Pest.atomic a (f B) k) (λ room f k. refl) d m n o
 
@@ -318,9 +344,10 @@ module _ (ns : List ℤ) (literals text : List ℕ) (capacity : ℕ) where
     rule-stop line r o c w = ap (λ (e : Ending ParserState). on-ok e (λ k. rule-over line r (E (d - 1) B k))) w ∙ rule-whole line r o
 
     pub rule-step : (line r : ℕ) → opened n ≡ entering (ltb 0 d) true m → (u : ParserState) → Ok u ≡ starting g line n → (x : Ending ParserState) → x ≡ E (d - 1) B u → (i : ℕ) → length (n .queue) ≡ i
-        → (w : Noted) → w ≡ noted (n .position) (tried-of n) → (y : Ending ParserState) → y ≡ Pest.rule-end g true line r (n .position) i (w .positives) (w .negatives) (w .total) x → y ≡ E d (Grammar.rule line r B) m
-    rule-step line r o u s x f i q w h y z =
-        z ∙ ap₂ (λ (j : ℕ) (v : Noted). Pest.rule-end g true line r (n .position) j (v .positives) (v .negatives) (v .total) x) (sym q) h
+        → (p : ℕ) → n .position ≡ p → (w : Noted) → w ≡ noted p (tried-of n) → (y : Ending ParserState) → y ≡ Pest.rule-end g true line r p i (w .positives) (w .negatives) (w .total) x → y ≡ E d (Grammar.rule line r B) m
+    rule-step line r o u s x f i q p k w h y z =
+        z ∙ ap₂ (λ (j : ℕ) (v : Noted). Pest.rule-end g true line r p j (v .positives) (v .negatives) (v .total) x) (sym q) h
+        ∙ ap (λ (j : ℕ). Pest.rule-end g true line r j (length (n .queue)) (noted j (tried-of n) .positives) (noted j (tried-of n) .negatives) (noted j (tried-of n) .total) x) (sym k)
         ∙ ap (rule-over line r) f
         ∙ ap (λ (e : Ending ParserState). on-ok e (λ k. rule-over line r (E (d - 1) B k))) s
         ∙ rule-whole line r o
@@ -357,10 +384,10 @@ module _ (ns : List ℤ) (literals text : List ℕ) (capacity : ℕ) where
   few-of tokens scratch d s r = let w : StateReady scratch s = state-of tokens scratch d s r in record { few-positives = w .positives; few-negatives = w .negatives }
 
   -- ── What the leaf after the body asks, from the body's equation ──
-  module _ (d body : ℕ) (tokens₀ scratch₀ : List ℕ) (m : ParserState) (r₀ : R tokens₀ scratch₀ d m) (tokens scratch : List ℕ) (size : length scratch ≡ length scratch₀) (r : Coded.Ending)
-      (e : view-end tokens scratch r ≡ E d (tree-at ns literals body) m) where
-    left : LeftFrom g m (view-end tokens scratch r)
-    left = kept tokens₀ scratch₀ d body m (view-end tokens scratch r) r₀ e
+  module _ (d body : ℕ) (tokens₀ scratch₀ : List ℕ) (m : ParserState) (r₀ : R tokens₀ scratch₀ d m) (tokens scratch : List ℕ) (size : length scratch ≡ length scratch₀) (s : Code.ParserState) (r : Coded.Ending)
+      (e : view-end tokens scratch s r ≡ E d (tree-at ns literals body) m) where
+    left : LeftFrom g m (view-end tokens scratch s r)
+    left = kept tokens₀ scratch₀ d body m (view-end tokens scratch s r) r₀ e
 
     marks-few : length (m .stack .lengths) ≤ 1024
     marks-few = omega (arith, r₀ .deep)
@@ -368,14 +395,14 @@ module _ (ns : List ℤ) (literals text : List ℕ) (capacity : ℕ) where
     room-same : 4864 ≤ length scratch
     room-same = rw size (r₀ .room)
 
-    pub body-ready : (n : ℕ) → n ≤ length (m .queue) → EndReady scratch n r
-    body-ready n h = end-ready m marks-few tokens scratch room-same n r left h
+    pub body-ready : (n : ℕ) → n ≤ length (m .queue) → EndReady scratch n s r
+    body-ready n h = end-ready m marks-few tokens scratch room-same n s r left h
 
-    pub body-push : (start : BytePosition) → start .0 ≤ length text → PushEndReady scratch start r
-    body-push start h = push-ready m marks-few tokens scratch room-same start r left (r₀ .short) h
+    pub body-push : (start : BytePosition) → start .0 ≤ length text → PushEndReady scratch start s r
+    body-push start h = push-ready m marks-few tokens scratch room-same start s r left (r₀ .short) h
 
-    pub body-rule : length tokens ≡ length tokens₀ → (i : ℕ) → i ≤ capacity → RuleEndReady tokens scratch capacity i r
-    body-rule t i h = rule-ready m marks-few tokens scratch room-same i r left (rw t (r₀ .area)) (r₀ .small) (r₀ .short) h
+    pub body-rule : length tokens ≡ length tokens₀ → (i : ℕ) → i ≤ capacity → RuleEndReady tokens scratch capacity i s r
+    body-rule t i h = rule-ready m marks-few tokens scratch room-same i s r left (rw t (r₀ .area)) (r₀ .small) (r₀ .short) h
 
   -- Lookahead and atomicity are not looked at.
   pub ready-looking : {tokens scratch : List ℕ} {d : ℕ} {m : ParserState} → R tokens scratch d m → (l : Lookahead) → R tokens scratch d (Pest.set-lookahead l m)

@@ -29,14 +29,11 @@ use Rattle.reading.proofs.Matchers.{string-same, folded-same, range-same, skip-
 use Rattle.engine.proofs.LineSteps.{three}
 use Rattle.reading.proofs.Accepted.{Accepted, Fits, Part, facts, tree-kind}
 
-four-five : (k : ℕ) → (k ≤ 3 → ⊥) → k ≤ 5 → (k ≡ 4 → ⊥) → (k ≡ 5 → ⊥) → ⊥
-four-five k lo hi n₄ n₅ = omega arith
-
 six-seven : (k : ℕ) → (k ≤ 5 → ⊥) → k ≤ 7 → (k ≡ 6 → ⊥) → (k ≡ 7 → ⊥) → ⊥
 six-seven k lo hi n₆ n₇ = omega arith
 
-nineteen : (k : ℕ) → (k ≤ 17 → ⊥) → k ≤ 20 → (k ≡ 18 → ⊥) → (k ≡ 20 → ⊥) → k ≡ 19
-nineteen k lo hi n₁₈ n₂₀ = omega arith
+eighteen : (k : ℕ) → (k ≤ 17 → ⊥) → k ≤ 20 → (k ≡ 18 → ⊥) → (k ≡ 19 → ⊥) → (k ≡ 20 → ⊥) → ⊥
+eighteen k lo hi n₁₈ n₁₉ n₂₀ = omega arith
 
 over : (k : ℕ) → (k ≤ 7 → ⊥) → 8 ≤ k
 over k h = omega arith
@@ -44,9 +41,9 @@ over k h = omega arith
 under : (k : ℕ) → (15 ≤ k → ⊥) → k ≤ 14
 under k h = omega arith
 
--- Of the kinds that open no call and are no fork, the one that is left.
-pub tag-kind : (k : ℕ) → 1 ≤ k → k ≤ 20 → (Fork k → ⊥) → opens-call k ≡ false → (k ≡ 1 → ⊥) → (k ≡ 2 → ⊥) → (k ≡ 3 → ⊥) → (k ≡ 4 → ⊥) → (k ≡ 5 → ⊥) → (k ≡ 15 → ⊥) → (k ≡ 16 → ⊥) → (k ≡ 17 → ⊥) → k ≡ 19
-tag-kind k lo hi f o n₁ n₂ n₃ n₄ n₅ n₁₅ n₁₆ n₁₇ = go (decLe k 3) (decLe k 5) (decLe k 7) (decLe 15 k) (decLe k 17)
+-- Of the kinds that open no call and are no fork, those that are left.
+leaf-kind : (k : ℕ) → k ≤ 20 → (Fork k → ⊥) → opens-call k ≡ false → (k ≡ 15 → ⊥) → (k ≡ 16 → ⊥) → (k ≡ 17 → ⊥) → (k ≡ 19 → ⊥) → k ≤ 5
+leaf-kind k hi f o n₁₅ n₁₆ n₁₇ n₁₉ = go (decLe k 5) (decLe k 7) (decLe 15 k) (decLe k 17)
   where
     opens : (j : ℕ) → k ≡ j → opens-call j ≡ true → ⊥
     opens j x t = true≢false (sym t ∙ ap opens-call (sym x) ∙ o)
@@ -54,13 +51,12 @@ tag-kind k lo hi f o n₁ n₂ n₃ n₄ n₅ n₁₅ n₁₆ n₁₇ = go (decL
     between : 8 ≤ k → k ≤ 14 → ⊥
     between p q = true≢false (sym (ap (λ (b : Bool). b || (eqb k 18 || eqb k 20)) (within-is 8 14 k p q)) ∙ o)
 
-    go : Dec (k ≤ 3) → Dec (k ≤ 5) → Dec (k ≤ 7) → Dec (15 ≤ k) → Dec (k ≤ 17) → k ≡ 19
-    go (yes a) b c d q = absurd (three 1 k lo a n₁ n₂ n₃)
-    go (no a) (yes b) c d q = absurd (four-five k a b n₄ n₅)
-    go (no a) (no b) (yes c) d q = absurd (six-seven k b c (λ x. f (inl x)) (λ x. f (inr x)))
-    go (no a) (no b) (no c) (yes d) (yes q) = absurd (three 15 k d q n₁₅ n₁₆ n₁₇)
-    go (no a) (no b) (no c) (yes d) (no q) = nineteen k q hi (λ x. opens 18 x refl) (λ x. opens 20 x refl)
-    go (no a) (no b) (no c) (no d) q = absurd (between (over k c) (under k d))
+    go : Dec (k ≤ 5) → Dec (k ≤ 7) → Dec (15 ≤ k) → Dec (k ≤ 17) → k ≤ 5
+    go (yes a) b c d = a
+    go (no a) (yes b) c d = absurd (six-seven k a b (λ x. f (inl x)) (λ x. f (inr x)))
+    go (no a) (no b) (yes c) (yes d) = absurd (three 15 k c d n₁₅ n₁₆ n₁₇)
+    go (no a) (no b) (yes c) (no d) = absurd (eighteen k d hi (λ x. opens 18 x refl) n₁₉ (λ x. opens 20 x refl))
+    go (no a) (no b) (no c) d = absurd (between (over k b) (under k c))
 
 module _ (ns : List ℤ) (literals : List ℕ) (w : Accepted ns literals) (l : ℕ) (i : Line ns l) (n : Read.Line) (e : n ≡ line-of (node-at ns l)) where
   -- The line's kind, and what the table says of its fields.
@@ -80,13 +76,12 @@ module _ (ns : List ℤ) (literals : List ℕ) (w : Accepted ns literals) (l : �
   pub tag-low : n .kind ≡ 19 → n .a ≤ 65535
   tag-low q = subst (λ (x : Read.Line). x .a ≤ 65535) (sym e) (fits .tag₁₉ (kind-of 19 q) .1)
 
-  -- The kind that is left; `rest` as the code's match gives it.
-  pub tag-of : (Fork (kind-at ns l) → ⊥) → opens-call (kind-at ns l) ≡ false
-      → (((((((Unit {0} × (n .kind ≡ 1 → ⊥)) × (n .kind ≡ 2 → ⊥)) × (n .kind ≡ 3 → ⊥)) × (n .kind ≡ 4 → ⊥)) × (n .kind ≡ 5 → ⊥)) × (n .kind ≡ 15 → ⊥)) × (n .kind ≡ 16 → ⊥)) × (n .kind ≡ 17 → ⊥) → n .kind ≡ 19
-  tag-of f o r =
+  -- The kinds that are left; `rest` as the code's match gives it.
+  pub leaf-of : (Fork (kind-at ns l) → ⊥) → opens-call (kind-at ns l) ≡ false → (((Unit {0} × (n .kind ≡ 15 → ⊥)) × (n .kind ≡ 16 → ⊥)) × (n .kind ≡ 17 → ⊥)) × (n .kind ≡ 19 → ⊥) → kind-at ns l ≤ 5
+  leaf-of f o r =
       let p : n .kind ≡ kind-at ns l = ap (λ (x : Read.Line). x .kind) e in
-      tag-kind (n .kind) (subst (λ (k : ℕ). 1 ≤ k) (sym p) (fits .known-low)) (subst (λ (k : ℕ). k ≤ 20) (sym p) (fits .known-high)) (subst (λ (k : ℕ). Fork k → ⊥) (sym p) f) (ap opens-call p ∙ o)
-      (r .0 .0 .0 .0 .0 .0 .0 .1) (r .0 .0 .0 .0 .0 .0 .1) (r .0 .0 .0 .0 .0 .1) (r .0 .0 .0 .0 .1) (r .0 .0 .0 .1) (r .0 .0 .1) (r .0 .1) (r .1)
+      subst (λ (k : ℕ). k ≤ 5) p
+      (leaf-kind (n .kind) (subst (λ (k : ℕ). k ≤ 20) (sym p) (fits .known-high)) (subst (λ (k : ℕ). Fork k → ⊥) (sym p) f) (ap opens-call p ∙ o) (r .0 .0 .0 .1) (r .0 .0 .1) (r .0 .1) (r .1))
 
 module _ (ns : List ℤ) (literals text : List ℕ) (capacity d : ℕ) (w : Accepted ns literals) (l : ℕ) (i : Line ns l) (n : Read.Line) (e : n ≡ line-of (node-at ns l)) where
   abbrev g : Setting

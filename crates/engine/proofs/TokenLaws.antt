@@ -1,7 +1,6 @@
 -- Tokens in an area: a write inside one token changes that token of the queue and no other. So a push, a partner and a tag are each
 -- one case of a single law over the token's five numbers.
 use mathlib.Core.Path.{_≡_, refl, sym, ap, ap₂, _∙_, subst}
-use mathlib.Core.Bool.{Bool, true, false}
 use mathlib.Core.List.{List, [], _∷_, _++_, append-assoc}
 use Prim.Native.Nat.{ℕ, zero, suc, _+_, _*_, _-_, _≤_, _<_}
 use native.Mathlib.Omega.{arith}
@@ -18,7 +17,7 @@ use Rattle.engine.specs.Areas.{Outside, token-at, queue-of}
 use Rattle.reading.specs.Outcome.{numbers, filled}
 use Rattle.reading.specs.Answer.{token-of, tokens-of}
 use Rattle.engine.specs.Tokens.{five-at, put-token, Written, Pushed, Patched, Tagged, Settled, SettledTo}
-use Rattle.engine.proofs.Regions.{outside-refl, outside-trans, outside-wider, outside-set}
+use Rattle.engine.proofs.Regions.{outside-refl, outside-trans, outside-wider}
 use Rattle.engine.proofs.AreaLaws.{outside-set-in}
 use Rattle.reading.proofs.QueueLaws.{tag-at-end, tag-at-start}
 use Rattle.reading.proofs.AnswerLaws.{tokens-append}

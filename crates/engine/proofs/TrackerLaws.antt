@@ -1,19 +1,22 @@
 -- What an entry answers, case by case: each law is one arm of the code, over a tracker's three fields.
 use mathlib.Core.Path.{_≡_, refl, sym, ap, _∙_}
-use mathlib.Core.Bool.{Bool, true, false, _&&_}
+use mathlib.Core.Bool.{Bool, true, false}
 use mathlib.Core.Option.{Option, none, some}
 use mathlib.Core.List.{List}
-use Prim.Native.Nat.{ℕ, zero, suc, _+_, _≤_, _<_}
+use Prim.Native.Nat.{ℕ, zero, suc, _+_, _<_}
 use native.Mathlib.Omega.{arith}
 use native.Mathlib.Numerals.{add-one}
-use lib.Dec.{leb, ltb}
+use lib.Dec.{leb}
 use borrow.Author.Tests.{leb-false}
 use Rattle.reading.specs.declared.call_limit_tracker.LimitKind.{LimitKind}
 use Rattle.reading.specs.declared.call_limit_tracker.LimitKind.the-variants as LimitKind
-use Rattle.reading.specs.Ending.{if_then_else_, Ending, Ok, Err}
-use Rattle.reading.specs.Pest.{ParserState, CallLimit, CallLimitTracker, Entered, exceeded, reached, one-more, enter, set-call-tracker, check-limit}
-use Rattle.engine.specs.Areas.{limit-of}
-use Rattle.engine.specs.Entry.{Entry, opened, refused, by-depth, entering, go-on}
+use Rattle.reading.specs.Ending.{if_then_else_, Ending, Err}
+use Rattle.reading.specs.Pest.{ParserState, CallLimit, CallLimitTracker, exceeded, reached, one-more, enter, set-call-tracker, check-limit}
+use Rattle.engine.specs.declared.call_limit_tracker.Admitted.{Admitted}
+use Rattle.engine.specs.declared.call_limit_tracker.CallLimitTracker as Code
+use Rattle.engine.specs.Fields as Fields
+use Rattle.engine.specs.Areas.{limit-of, tracker-of, view}
+use Rattle.engine.specs.Entry.{opened, refused, by-depth, entered-of, entered-with, entering, view-entry, go-on}
 
 -- ── the call limit; 0 is none ──
 pub exceeded-none : (n l : ℕ) → l ≡ 0 → false ≡ exceeded (limit-of n l)
@@ -72,12 +75,17 @@ pub cause-set : (room counted : Bool) (o : Option CallLimit) (r : Option LimitKi
 cause-set room counted o r k e = rw e
 
 -- ── the entry of a combinator ──
-module _ (room counted : Bool) (m : ParserState) (t : CallLimitTracker) where
-  pub enter-open : record { answer = true; tracker = t } ≡ enter room counted (m .call-tracker) → opened (set-call-tracker t m) ≡ entering room counted m
-  enter-open e = rw (← e)
+entered-is : (b room counted : Bool) (m : ParserState) (t : CallLimitTracker) → record { answer = b; tracker = t } ≡ enter room counted (m .call-tracker)
+    → view-entry b (set-call-tracker t m) ≡ entering room counted m
+entered-is true room counted m t e = rw (← e)
+entered-is false room counted m t e = rw (← e)
 
-  pub enter-refused : record { answer = false; tracker = t } ≡ enter room counted (m .call-tracker) → refused (set-call-tracker t m) ≡ entering room counted m
-  enter-refused e = rw (← e)
+-- v is the tracker that the code read, a its answer, with the tracker w for the state.
+pub entry-is : (b room counted : Bool) (s t : Fields.ParserState) (v w : Code.CallLimitTracker) (a : Admitted) → v ≡ s .tracker → entered-of a ≡ enter room counted (tracker-of v)
+    → entered-of a ≡ entered-with b w → t ≡ Fields.set-tracker w s → (tokens scratch : List ℕ) → view-entry b (view tokens scratch t) ≡ entering room counted (view tokens scratch s)
+entry-is b room counted s t v w a ev e ea et tokens scratch =
+    ap (λ (u : Fields.ParserState). view-entry b (view tokens scratch u)) et
+    ∙ entered-is b room counted (view tokens scratch s) (tracker-of w) (sym ea ∙ e ∙ ap (λ (u : Code.CallLimitTracker). enter room counted (tracker-of u)) ev)
 
 -- How the combinators' own words use it.
 pub check-limit-is : (room counted : Bool) (m : ParserState) (k : ParserState → Ending ParserState) → check-limit room counted m k ≡ go-on (entering room counted m) k

@@ -5,13 +5,13 @@ use mathlib.Core.Bool.{Bool, true, false}
 use mathlib.Core.Logic.{inl, inr}
 use mathlib.Core.List.{List}
 use Prim.Native.Nat.{ℕ, _+_, _-_, _*_, _≤_, _<_}
+use native.Mathlib.Decide.{decLe}
 use native.Mathlib.Omega.{arith}
 use lib.Dec.{eqb}
 use lib.IntN.{ℤ}
 use lib.ListN.{length}
 use Rattle.engine.specs.declared.node.Line as Read
 use Rattle.engine.specs.declared.spine.Spine.{Spine}
-use Rattle.reading.specs.declared.parser_state.Cause.{Cause}
 use Rattle.reading.specs.Ending.{if_then_else_, Ending, Ok, Err, Stop}
 use Rattle.reading.specs.Grammar.{node-at, kind-at, line-count, tree-at}
 use Rattle.reading.specs.Reading.{Setting}
@@ -21,9 +21,9 @@ use Rattle.engine.specs.Spine.{left-of, Fork, spine-line, Forks, Slopes,
 use Rattle.reading.specs.Fit.{Fit}
 use Rattle.engine.specs.Evaluation.{setting-of, Ready, Line, evaluated}
 use Rattle.reading.proofs.Accepted.{Accepted, Fits, facts, tree-kind}
-use Rattle.engine.proofs.Spines.{spine-first}
+use Rattle.engine.proofs.Spines.{spine-first, spine-next}
 use Rattle.engine.proofs.Climbs as Climbs
-use Rattle.engine.proofs.Climbs.{Onward, go, stay, going, onto, right-of, Forked, rise, climb-runs}
+use Rattle.engine.proofs.Climbs.{Onward, go, stay, going, onto, right-of, Forked}
 use Rattle.engine.proofs.Steps.{LeftFrom, tests, ready-on, kept}
 
 pub forked : (ns : List ℤ) (literals : List ℕ) → Accepted ns literals → Forked ns literals
@@ -83,15 +83,14 @@ fine-left g d m (Ok n) h w = (w .fit, omega (arith, w .level))
 fine-left g d m (Err n) h w = (w .fit, omega (arith, w .level))
 fine-left g d m (Stop c) h w = tt
 
--- The inner loop: x₀ is the leftmost line's ending, x the ending so far, and i lines are left.
+-- The loop up a spine: x₀ is the ending of the line `count` steps below the top, and x that of the line i steps below it, from any state.
 pub record Climbing (ns : List ℤ) (literals text : List ℕ) (capacity d top count : ℕ) (tokens₀ scratch₀ : List ℕ) (x₀ : Ending ParserState) (tokens scratch : List ℕ) (x : Ending ParserState) (i : ℕ) : Type 0 where
-  pub forks : Forked ns literals
   pub tokens-same : length tokens ≡ length tokens₀
   pub scratch-same : length scratch ≡ length scratch₀
   pub low : 1 ≤ i
   pub upto : i ≤ count
   pub fine : Fine (setting-of ns literals text capacity) d x
-  pub runs : rise ns literals text capacity d forks top i x ≡ rise ns literals text capacity d forks top count x₀
+  pub runs : (m : ParserState) → x₀ ≡ evaluated ns literals text capacity d (tree-at ns literals (spine-line ns top count)) m → x ≡ evaluated ns literals text capacity d (tree-at ns literals (spine-line ns top i)) m
 
 module _ (ns : List ℤ) (literals text : List ℕ) (capacity d : ℕ) where
   abbrev g : Setting
@@ -126,80 +125,89 @@ module _ (ns : List ℤ) (literals text : List ℕ) (capacity d : ℕ) where
       pub line-whole : (i l : ℕ) → i ≤ p .count → l ≡ spine-line ns top i → (1 ≤ l) × (l * 4 ≤ length ns)
       line-whole = Climbs.line-whole ns literals text capacity d fk top (here .low) (here .high) p w
 
-      pub low-stop : (c : Cause) → Stop c ≡ at-line (p .line) m → Stop c ≡ at-line top m
-      low-stop c f = Climbs.low-stop ns literals text capacity d fk top (here .low) (here .high) p w c m f
+      module _ (fork : Fork (kind-at ns top)) where
+        some-below : 1 ≤ p .count
+        some-below = go (decLe 1 (p .count))
+          where
+            go : Dec (1 ≤ p .count) → 1 ≤ p .count
+            go (yes h) = h
+            go (no h) = absurd (top-last (omega arith) fork)
 
-      module _ (tokens₀ scratch₀ : List ℕ) (x₀ : Ending ParserState) (f₀ : x₀ ≡ at-line (p .line) m) where
-        pub first-climb : (p .count ≡ 0 → ⊥) → Climbing ns literals text capacity d top (p .count) tokens₀ scratch₀ x₀ tokens₀ scratch₀ x₀ (p .count)
-        first-climb z = record { forks = fk; tokens-same = refl; scratch-same = refl; low = omega arith; upto = omega arith; fine = fine-line tokensₒ scratchₒ (p .line) m x₀ r f₀; runs = refl }
+        pub first-climb : (tokens scratch : List ℕ) (x : Ending ParserState) → x ≡ at-line (p .line) m → Climbing ns literals text capacity d top (p .count) tokens scratch x tokens scratch x (p .count)
+        first-climb tokens scratch x f = record { tokens-same = refl; scratch-same = refl; low = some-below; upto = omega arith; fine = fine-line tokensₒ scratchₒ (p .line) m x r f; runs = λ _ e. e }
 
-        module _ (tokens scratch : List ℕ) (x : Ending ParserState) (i : ℕ) (c : Climbing ns literals text capacity d top (p .count) tokens₀ scratch₀ x₀ tokens scratch x i)
-            (ut : length tokens₀ ≡ length tokensₒ) (us : length scratch₀ ≡ length scratchₒ) where
-          -- The state from which a right side is evaluated.
-          pub go-ready : (k : ℕ) (t : ParserState) → go t ≡ going k x → Ready ns literals text tokens scratch capacity d t
-          go-ready k t f =
-              let v : Able g d t = subst (FineOn g d) (sym f) (fine-going g d k x (c .fine)) in
-              ready-on ns literals text capacity r (c .tokens-same ∙ ut) (c .scratch-same ∙ us) (v .0) (v .1)
+      module _ (tokens₀ scratch₀ : List ℕ) (x₀ : Ending ParserState) (ut : length tokens₀ ≡ length tokensₒ) (us : length scratch₀ ≡ length scratchₒ)
+          (tokens scratch : List ℕ) (x : Ending ParserState) (i : ℕ) (c : Climbing ns literals text capacity d top (p .count) tokens₀ scratch₀ x₀ tokens scratch x i) where
+        -- The state from which a right side is evaluated.
+        pub go-ready : (k : ℕ) (t : ParserState) → go t ≡ going k x → Ready ns literals text tokens scratch capacity d t
+        go-ready k t f =
+            let v : Able g d t = subst (FineOn g d) (sym f) (fine-going g d k x (c .fine)) in
+            ready-on ns literals text capacity r (c .tokens-same ∙ ut) (c .scratch-same ∙ us) (v .0) (v .1)
 
-          module _ (o : 1 < i) (l : ℕ) (q : l ≡ spine-line ns top (i - 1)) (n : Read.Line) (h : n ≡ line-of (node-at ns l)) where
-            pub climb-in : (1 ≤ n .b) × (n .b < top)
-            climb-in =
-                let v = Climbs.right-lower ns literals text capacity d fk top (here .low) (here .high) p w (i - 1) l (omega (arith, c .upto)) q n h in
-                (v .0 .0, omega (arith, v .0 .1, v .1))
+        module _ (o : 1 < i) (l : ℕ) (q : l ≡ spine-line ns top (i - 1)) (n : Read.Line) (h : n ≡ line-of (node-at ns l)) where
+          -- The right side is lower than the spine's line, which is lower than the top.
+          pub climb-in : (1 ≤ n .b) × (n .b + 1 < top)
+          climb-in =
+              let v = Climbs.right-lower ns literals text capacity d fk top (here .low) (here .high) p w (i - 1) l (omega (arith, c .upto)) q n h in
+              (v .0 .0, omega (arith, v .0 .1, v .1))
 
-            pub climb-line : Line ns (n .b)
-            climb-line = let v = climb-in in record { low = v .0; high = omega (arith, v .1, here .high) }
+          pub climb-line : Line ns (n .b)
+          climb-line = let v = climb-in in record { low = v .0; high = omega (arith, v .1, here .high) }
 
-            rises : (y : Ending ParserState) → y ≡ onto (at-line (n .b)) (going (n .kind) x) → rise ns literals text capacity d (c .forks) top (i - 1) y ≡ rise ns literals text capacity d (c .forks) top (p .count) x₀
-            rises y f = climb-runs ns literals text capacity d (c .forks) top (here .low) (here .high) p w x₀ m f₀ i x (c .low) (c .runs) l q n h y f
+          climbs : (y : Ending ParserState) → y ≡ onto (at-line (n .b)) (going (n .kind) x) → (m′ : ParserState) → x₀ ≡ at-line (spine-line ns top (p .count)) m′ → y ≡ at-line (spine-line ns top (i - 1)) m′
+          climbs y f m′ e = Climbs.climb-runs ns literals text capacity d fk top (here .low) (here .high) p w m′ i x (c .low) (c .upto) (c .runs m′ e) l q n h y f
 
-            pub climb-go : (t : ParserState) → go t ≡ going (n .kind) x → (tokens′ scratch′ : List ℕ) (y : Ending ParserState) → y ≡ at-line (n .b) t → length tokens′ ≡ length tokens → length scratch′ ≡ length scratch
-                → Climbing ns literals text capacity d top (p .count) tokens₀ scratch₀ x₀ tokens′ scratch′ y (i - 1)
-            climb-go t f tokens′ scratch′ y v a b = record {
-              forks = c .forks;
-              tokens-same = a ∙ c .tokens-same;
-              scratch-same = b ∙ c .scratch-same;
-              low = omega arith;
-              upto = omega (arith, c .upto);
-              fine = fine-line tokens scratch (n .b) t y (go-ready (n .kind) t f) v;
-              runs = rises y (v ∙ ap (onto (at-line (n .b))) f);
-            }
+          pub climb-go : (t : ParserState) → go t ≡ going (n .kind) x → (tokens′ scratch′ : List ℕ) (y : Ending ParserState) → y ≡ at-line (n .b) t → length tokens′ ≡ length tokens → length scratch′ ≡ length scratch
+              → Climbing ns literals text capacity d top (p .count) tokens₀ scratch₀ x₀ tokens′ scratch′ y (i - 1)
+          climb-go t f tokens′ scratch′ y v a b = record {
+            tokens-same = a ∙ c .tokens-same;
+            scratch-same = b ∙ c .scratch-same;
+            low = omega arith;
+            upto = omega (arith, c .upto);
+            fine = fine-line tokens scratch (n .b) t y (go-ready (n .kind) t f) v;
+            runs = climbs y (v ∙ ap (onto (at-line (n .b))) f);
+          }
 
-            pub climb-stop : (t : ParserState) → go t ≡ going (n .kind) x → (s : Cause) → Stop s ≡ at-line (n .b) t → Stop s ≡ at-line top m
-            climb-stop t f s v =
-                Climbs.climb-stop ns literals text capacity d (c .forks) top (here .low) (here .high) p w x₀ m f₀ i x (c .low) (c .runs) l q n h s (v ∙ ap (onto (at-line (n .b))) f)
+          pub climb-stay : stay x ≡ going (n .kind) x → Climbing ns literals text capacity d top (p .count) tokens₀ scratch₀ x₀ tokens scratch x (i - 1)
+          climb-stay f = record {
+            tokens-same = c .tokens-same;
+            scratch-same = c .scratch-same;
+            low = omega arith;
+            upto = omega (arith, c .upto);
+            fine = c .fine;
+            runs = climbs x (ap (onto (at-line (n .b))) f);
+          }
 
-            pub climb-stay : stay x ≡ going (n .kind) x → Climbing ns literals text capacity d top (p .count) tokens₀ scratch₀ x₀ tokens scratch x (i - 1)
-            climb-stay f = record {
-              forks = c .forks;
-              tokens-same = c .tokens-same;
-              scratch-same = c .scratch-same;
-              low = omega arith;
-              upto = omega (arith, c .upto);
-              fine = c .fine;
-              runs = rises x (ap (onto (at-line (n .b))) f);
-            }
+        -- The line one step below the top is the top's left side.
+        pub climbed : i ≤ 1 → x₀ ≡ at-line (p .line) m → x ≡ at-line (left-of ns top) m
+        climbed o f =
+            let e : i ≡ 0 + 1 = omega (arith, c .low) in
+            c .runs m (Climbs.low-is ns literals text capacity d fk top (here .low) (here .high) p w x₀ m f)
+            ∙ ap (λ (j : ℕ). at-line (spine-line ns top j) m) e
+            ∙ ap (λ (l : ℕ). at-line l m) (spine-next ns top 0 ∙ ap (left-of ns) (sym (spine-first ns top)))
 
-          -- At the top.
-          module _ (o : i ≤ 1) (n : Read.Line) (h : n ≡ line-of (node-at ns top)) where
-            pub top-in : (1 ≤ n .b) × (n .b < top)
-            top-in = Climbs.right-lower ns literals text capacity d fk top (here .low) (here .high) p w 0 top (omega (arith, c .upto, c .low)) (spine-first ns top) n h .0
+    -- The top, from its left side's ending x.
+    module _ (fork : Fork (kind-at ns top)) (tokens scratch : List ℕ) (ut : length tokens ≡ length tokensₒ) (us : length scratch ≡ length scratchₒ)
+        (x : Ending ParserState) (f₀ : x ≡ at-line (left-of ns top) m) (n : Read.Line) (h : n ≡ line-of (node-at ns top)) where
+      pub top-in : (1 ≤ n .b) × (n .b < top)
+      top-in = subst (λ (k : Read.Line). Climbs.Lower top (k .b)) (sym h) (fk .lower top (here .low) (here .high) fork .1)
 
-            top-is : (y : Ending ParserState) → y ≡ onto (at-line (n .b)) (going (n .kind) x) → y ≡ at-line top m
-            top-is y f = Climbs.top-runs ns literals text capacity d (c .forks) top (here .low) (here .high) p w x₀ m f₀ i x (c .low) (c .runs) o n h y f
+      top-is : (y : Ending ParserState) → y ≡ onto (at-line (n .b)) (going (n .kind) x) → y ≡ at-line top m
+      top-is y f = Climbs.top-runs ns literals text capacity d fk top (here .low) (here .high) fork x m f₀ n h y f
 
-            pub top-stay : stay x ≡ going (n .kind) x → x ≡ at-line top m
-            top-stay f = top-is x (ap (onto (at-line (n .b))) f)
+      pub top-stay : stay x ≡ going (n .kind) x → x ≡ at-line top m
+      top-stay f = top-is x (ap (onto (at-line (n .b))) f)
 
-            pub top-go : (line : ℕ) (tokensₛ scratchₛ : List ℕ) (mₛ : ParserState) → Walking ns literals text capacity d line tokensₛ scratchₛ mₛ tokensₒ scratchₒ top m → (t : ParserState) → go t ≡ going (n .kind) x
-                → Walking ns literals text capacity d line tokensₛ scratchₛ mₛ tokens scratch (n .b) t
-            top-go line tokensₛ scratchₛ mₛ v t f =
-                let b = top-in in
-                record {
-                  ready = go-ready (n .kind) t f;
-                  here = record { low = b .0; high = omega (arith, b .1, here .high) };
-                  upto = omega (arith, b .1, v .upto);
-                  tokens-same = c .tokens-same ∙ ut ∙ v .tokens-same;
-                  scratch-same = c .scratch-same ∙ us ∙ v .scratch-same;
-                  runs = top-is (at-line (n .b) t) (ap (onto (at-line (n .b))) f) ∙ v .runs;
-                }
+      pub top-go : (line : ℕ) (tokensₛ scratchₛ : List ℕ) (mₛ : ParserState) → Walking ns literals text capacity d line tokensₛ scratchₛ mₛ tokensₒ scratchₒ top m → (t : ParserState) → go t ≡ going (n .kind) x
+          → Walking ns literals text capacity d line tokensₛ scratchₛ mₛ tokens scratch (n .b) t
+      top-go line tokensₛ scratchₛ mₛ v t f =
+          let b = top-in in
+          let a : Able g d t = subst (FineOn g d) (sym f) (fine-going g d (n .kind) x (fine-line tokensₒ scratchₒ (left-of ns top) m x r f₀)) in
+          record {
+            ready = ready-on ns literals text capacity r ut us (a .0) (a .1);
+            here = record { low = b .0; high = omega (arith, b .1, here .high) };
+            upto = omega (arith, b .1, v .upto);
+            tokens-same = ut ∙ v .tokens-same;
+            scratch-same = us ∙ v .scratch-same;
+            runs = top-is (at-line (n .b) t) (ap (onto (at-line (n .b))) f) ∙ v .runs;
+          }

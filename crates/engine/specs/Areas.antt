@@ -11,9 +11,9 @@ use Rattle.engine.specs.declared.call_limit_tracker.LimitReached.{LimitR
 use Rattle.engine.specs.declared.call_limit_tracker.LimitReached.the-variants.{No, By}
 use Rattle.engine.specs.declared.call_limit_tracker.CallLimitTracker.{CallLimitTracker}
 use Rattle.engine.specs.declared.stack.Stack.{Stack}
-use Rattle.engine.specs.declared.parser_state.ParserState.{ParserState}
 use Rattle.engine.specs.declared.parser_state.Ending.{Ending}
 use Rattle.engine.specs.declared.parser_state.Ending.the-variants as Code
+use Rattle.engine.specs.Fields.{ParserState}
 use Rattle.reading.specs.Ending as Model
 use Rattle.reading.specs.Ending.{if_then_else_, Span, Checkpoint}
 use Rattle.reading.specs.Pest as Pest
@@ -105,7 +105,8 @@ view tokens scratch s = record {
   call-tracker = tracker-of (s .tracker);
 }
 
-abbrev pub view-end : (tokens scratch : List ℕ) → Ending → Model.Ending Pest.ParserState
-view-end tokens scratch (Code.Ok s) = Model.Ok (view tokens scratch s)
-view-end tokens scratch (Code.Err s) = Model.Err (view tokens scratch s)
-view-end tokens scratch (Code.Stop c) = Model.Stop c
+-- The ending with the state that it left.
+abbrev pub view-end : (tokens scratch : List ℕ) → ParserState → Ending → Model.Ending Pest.ParserState
+view-end tokens scratch s Code.Ok = Model.Ok (view tokens scratch s)
+view-end tokens scratch s Code.Err = Model.Err (view tokens scratch s)
+view-end tokens scratch s Code.Stop = Model.Stop (s .cause)

@@ -2,11 +2,11 @@
 use mathlib.Core.List.{List}
 use Prim.Native.Nat.{ℕ, _*_, _≤_}
 use lib.ListN.{length}
-use Rattle.engine.specs.declared.parser_state.ParserState as State
 use Rattle.engine.specs.declared.parser_state.Ending as Declared
 use Rattle.engine.specs.declared.parser_state.Ending.the-variants as Code
 use Rattle.engine.specs.declared.state.Outcome as Returned
 use Rattle.reading.specs.Outcome.{Outcome}
+use Rattle.engine.specs.Fields as State
 use Rattle.engine.specs.Report.{Reportable}
 
 -- What a function returns, with the areas as they then stand.
@@ -19,7 +19,7 @@ pub record Concluding (tokens scratch report : List ℕ) (s : State.ParserState)
   pub few : s .queue .0 ≤ 65535
   pub attempts : Reportable scratch (s .attempts) report
 
-abbrev pub ConcludeReady : (tokens scratch report : List ℕ) → Declared.Ending → Type 0
-ConcludeReady tokens scratch report (Code.Ok s) = Concluding tokens scratch report s
-ConcludeReady tokens scratch report (Code.Err s) = Concluding tokens scratch report s
-ConcludeReady tokens scratch report (Code.Stop c) = Unit {0}
+abbrev pub ConcludeReady : (tokens scratch report : List ℕ) → State.ParserState → Declared.Ending → Type 0
+ConcludeReady tokens scratch report s Code.Ok = Concluding tokens scratch report s
+ConcludeReady tokens scratch report s Code.Err = Concluding tokens scratch report s
+ConcludeReady tokens scratch report s Code.Stop = Unit {0}

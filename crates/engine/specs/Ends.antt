@@ -4,35 +4,35 @@ use mathlib.Core.List.{List}
 use Prim.Native.Nat.{ℕ, _≤_}
 use Rattle.matching.specs.declared.position.BytePosition.{BytePosition}
 use Rattle.reading.specs.declared.parser_state.Atomicity.{Atomicity}
-use Rattle.engine.specs.declared.parser_state.ParserState as State
 use Rattle.engine.specs.declared.parser_state.Ending as Declared
 use Rattle.engine.specs.declared.parser_state.Ending.the-variants as Code
+use Rattle.engine.specs.Fields as State
 use Rattle.reading.specs.Ending.{if_then_else_, Ending, Ok, Err, Stop}
 use Rattle.reading.specs.Pest.{ParserState, set-atomicity, limit-reached}
 use Rattle.engine.specs.StackReady.{StateReady, PushReady}
 use Rattle.engine.specs.Rule.{Recording, Tracking}
 
 -- The ending's state is ready, and holds no fewer than n tokens.
-abbrev pub EndReady : (scratch : List ℕ) → (n : ℕ) → Declared.Ending → Type 0
-EndReady a n (Code.Ok s) = StateReady a s × (n ≤ s .queue .0)
-EndReady a n (Code.Err s) = StateReady a s × (n ≤ s .queue .0)
-EndReady a n (Code.Stop c) = Unit {0}
+abbrev pub EndReady : (scratch : List ℕ) → (n : ℕ) → State.ParserState → Declared.Ending → Type 0
+EndReady a n s Code.Ok = StateReady a s × (n ≤ s .queue .0)
+EndReady a n s Code.Err = StateReady a s × (n ≤ s .queue .0)
+EndReady a n s Code.Stop = Unit {0}
 
 -- Of a push: only a matched body's span is pushed.
-abbrev pub PushEndReady : (scratch : List ℕ) → (start : BytePosition) → Declared.Ending → Type 0
-PushEndReady a start (Code.Ok s) = PushReady a start s
-PushEndReady a start (Code.Err s) = Unit {0}
-PushEndReady a start (Code.Stop c) = Unit {0}
+abbrev pub PushEndReady : (scratch : List ℕ) → (start : BytePosition) → State.ParserState → Declared.Ending → Type 0
+PushEndReady a start s Code.Ok = PushReady a start s
+PushEndReady a start s Code.Err = Unit {0}
+PushEndReady a start s Code.Stop = Unit {0}
 
 -- Of a rule that matched: it may track an attempt and write its End.
 abbrev pub RuleOkReady : (tokens scratch : List ℕ) → (capacity index : ℕ) → State.ParserState → Type 0
 RuleOkReady t a capacity i s = Recording t capacity s × Tracking a s × (i ≤ capacity)
 
 -- Of a rule, by its body's ending.
-abbrev pub RuleEndReady : (tokens scratch : List ℕ) → (capacity index : ℕ) → Declared.Ending → Type 0
-RuleEndReady t a capacity i (Code.Ok s) = RuleOkReady t a capacity i s
-RuleEndReady t a capacity i (Code.Err s) = Tracking a s
-RuleEndReady t a capacity i (Code.Stop c) = Unit {0}
+abbrev pub RuleEndReady : (tokens scratch : List ℕ) → (capacity index : ℕ) → State.ParserState → Declared.Ending → Type 0
+RuleEndReady t a capacity i s Code.Ok = RuleOkReady t a capacity i s
+RuleEndReady t a capacity i s Code.Err = Tracking a s
+RuleEndReady t a capacity i s Code.Stop = Unit {0}
 
 -- `atomic`, after its body: the atomicity is toggled back, which is to set it.
 abbrev pub atomic-back : Atomicity → Ending ParserState → Ending ParserState

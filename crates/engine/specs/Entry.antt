@@ -7,11 +7,9 @@ use Rattle.reading.specs.declared.call_limit_tracker.LimitKind.the-variants as 
 use Rattle.engine.specs.declared.call_limit_tracker.CallLimitTracker as Tracker
 use Rattle.engine.specs.declared.call_limit_tracker.Admitted.{Admitted}
 use Rattle.engine.specs.declared.call_limit_tracker.Admitted.the-variants.{Yes, No}
-use Rattle.engine.specs.declared.entry.Entry as Code
-use Rattle.engine.specs.declared.entry.Entry.the-variants.{Open, Refused}
 use Rattle.reading.specs.Ending.{if_then_else_, Ending, Ok, Err}
 use Rattle.reading.specs.Pest.{ParserState, CallLimitTracker, Entered, reached, enter, set-call-tracker}
-use Rattle.engine.specs.Areas.{tracker-of, view}
+use Rattle.engine.specs.Areas.{tracker-of}
 
 abbrev pub entered-of : Admitted → Entered
 entered-of (Yes t) = record { answer = true; tracker = tracker-of t }
@@ -32,9 +30,10 @@ by-depth room t next = if room then record { answer = true; tracker = next } els
 pub data Entry : Type 0 where
   opened refused : ParserState → Entry
 
-abbrev pub view-entry : (tokens scratch : List ℕ) → Code.Entry → Entry
-view-entry tokens scratch (Open s) = opened (view tokens scratch s)
-view-entry tokens scratch (Refused s) = refused (view tokens scratch s)
+-- The code's answer, with the state that it left.
+abbrev pub view-entry : (let-in : Bool) → ParserState → Entry
+view-entry true m = opened m
+view-entry false m = refused m
 
 -- `inc_call_check_limit` (a counted call) and `check_stack_limit`
 abbrev pub entering : (room count-call : Bool) → ParserState → Entry

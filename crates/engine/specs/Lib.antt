@@ -1,3 +1,4 @@
+pub mod Fields
 pub mod Areas
 pub mod Pairs
 pub mod Bounded

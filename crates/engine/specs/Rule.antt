@@ -3,10 +3,10 @@ use mathlib.Core.Bool.{Bool, true, false}
 use mathlib.Core.List.{List}
 use Prim.Native.Nat.{ℕ, _*_, _≤_}
 use lib.ListN.{length, take}
-use Rattle.engine.specs.declared.parser_state.ParserState as State
 use Rattle.reading.specs.Ending.{if_then_else_, Ending, Ok}
 use Rattle.reading.specs.Reading.{Setting, most-entries, most-debt}
 use Rattle.reading.specs.Pest.{ParserState, Start, produces, push-token, set-queue}
+use Rattle.engine.specs.Fields as State
 use Rattle.engine.specs.Attempts.{Lent}
 
 -- `rule`, up to its body

@@ -8,9 +8,8 @@ use lib.IntN.{ℤ}
 use lib.ListN.{length}
 use lib.Dec.{eqb}
 use Rattle.engine.specs.declared.spine.Spine.{Spine}
-use Rattle.engine.specs.declared.parser_state.ParserState.{ParserState}
 use Rattle.engine.specs.declared.parser_state.Ending.{Ending}
-use Rattle.engine.specs.declared.parser_state.Ending.the-variants.{Ok, Err}
+use Rattle.engine.specs.declared.parser_state.Ending.the-variants.{Ok, Err, Stop}
 use Rattle.reading.specs.Grammar.{natural, node-at, kind-at, line-count}
 
 abbrev pub left-of : List ℤ → (line : ℕ) → ℕ
@@ -41,15 +40,13 @@ pub record Spined (ns : List ℤ) (top : ℕ) (r : Spine) : Type 0 where
   pub place : r .line ≡ spine-line ns top (r .count)
   pub last : Fork (kind-at ns (r .line)) → ⊥
 
--- Whether a fork's right side is evaluated, where its left side ended in Ok or not.
-abbrev pub goes-by : (and : Bool) → (good : Bool) → Bool
-goes-by true good = good
-goes-by false good = not good
-
-unfoldable pub goes : (kind : ℕ) → (good : Bool) → Bool
-goes k good = goes-by (eqb k 6) good
+-- Whether a fork's right side is evaluated, where its left side ended so.
+unfoldable pub goes : (kind : ℕ) → Ending → Bool
+goes k Ok = eqb k 6
+goes k Err = not (eqb k 6)
+goes k Stop = false
 
 -- An ending that is no stop.
-unfoldable pub ending-of : (good : Bool) → ParserState → Ending
-ending-of true s = Ok s
-ending-of false s = Err s
+abbrev pub ending-of : (good : Bool) → Ending
+ending-of true = Ok
+ending-of false = Err

@@ -5,9 +5,9 @@ use Prim.Native.Nat.{ℕ, _≤_, _<_}
 use lib.ListN.{length, getD}
 use Rattle.matching.specs.declared.position.BytePosition.{BytePosition}
 use Rattle.engine.specs.declared.stack.Stack.{Stack}
-use Rattle.engine.specs.declared.parser_state.ParserState.{ParserState}
 use Rattle.reading.specs.Reading.{most-entries, most-debt, most-attempts}
 use Rattle.reading.specs.Sound.{Sound}
+use Rattle.engine.specs.Fields.{ParserState}
 use Rattle.engine.specs.Areas.{stack-of, positives-at, lengths-at, scratch-size}
 
 -- As many checkpoints as the last region holds: one for each open call.

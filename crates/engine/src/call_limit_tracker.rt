@@ -1,7 +1,7 @@
 // The call tracker: counted calls, the call limit and the cause, by value; and `enter`, which is lent it.
 use reading::call_limit_tracker::LimitKind;
 ghost use mathlib.Core.Path.{_≡_};
-ghost use mathlib.Core.Bool.{Bool, false};
+ghost use mathlib.Core.Bool.{false};
 ghost use Rattle.engine.specs.declared.call_limit_tracker.LimitReached.the-variants as Reached;
 ghost use Rattle.reading.specs.Pest.{exceeded, one-more, enter};
 ghost use Rattle.engine.specs.Areas.{limit-of, tracker-of};
@@ -15,8 +15,8 @@ pub enum LimitReached {
 
 // pest's `CallLimitTracker`: the counted calls, the call limit (0: none, and nothing is counted), and the cause once it is set.
 pub struct CallLimitTracker {
-    pub current: u32,
-    pub limit: u32,
+    pub current: usize,
+    pub limit: usize,
     pub reached: LimitReached,
 }
 

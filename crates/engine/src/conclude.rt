@@ -2,8 +2,11 @@
 use crate::attempts::Attempts;
 use crate::attempts::write_report;
 use crate::call_limit_tracker::LimitReached;
+use crate::fields::attempts;
+use crate::fields::cause;
+use crate::fields::queue;
+use crate::fields::tracker;
 use crate::parser_state::Ending;
-use crate::parser_state::ParserState;
 use crate::queueable_token::clear;
 use crate::queueable_token::write_tokens;
 use crate::state::Outcome;
@@ -15,6 +18,7 @@ ghost use mathlib.Core.Path.{_≡_};
 ghost use Prim.Native.Nat.{_*_, _≤_};
 ghost use lib.ListN.{length};
 ghost use Rattle.reading.specs.Ending as Model;
+ghost use Rattle.engine.specs.Fields.{state-size, fields};
 ghost use Rattle.engine.specs.Areas.{queue-of, view, view-end};
 ghost use Rattle.reading.specs.Answer.{tokens-of};
 ghost use Rattle.engine.specs.Attempts.{tried};
@@ -98,46 +102,51 @@ fn of_failure(tokens: &mut [u32], scratch: &[u32], report: &mut [u32], t: Attemp
 }
 
 // "Ok without a limit cause is 0, even with text left over."
-fn of_ok(tokens: &mut [u32], scratch: &[u32], report: &mut [u32], s: ParserState) -> Outcome
-    requires { ⌜ Concluding (now tokens) (now scratch) (now report) s ⌝ }
-    ensures { λ r. ⌜ outcome-of r (now (tokens .exit)) (now (report .exit)) ≡ laid (length (now (tokens .entry))) (length (now (report .entry))) (pest-answer (Model.Ok (view (now (tokens .entry)) (now (scratch .entry)) s))) ⌝ }
+fn of_ok(tokens: &mut [u32], scratch: &[u32], report: &mut [u32], s: &[usize]) -> Outcome
+    requires { ⌜ state-size ≤ length (now s) ⌝ }
+    requires { ⌜ Concluding (now tokens) (now scratch) (now report) (fields (now s)) ⌝ }
+    ensures { λ r. ⌜ outcome-of r (now (tokens .exit)) (now (report .exit)) ≡ laid (length (now (tokens .entry))) (length (now (report .entry))) (pest-answer (Model.Ok (view (now (tokens .entry)) (now (scratch .entry)) (fields (now (s .entry)))))) ⌝ }
 {
-    let t = s.tracker;
-    let attempts = s.attempts;
-    let queue = s.queue;
+    let t = tracker(s);
     let reached = t.reached;
     match reached {
-        LimitReached::By(kind) => of_limit(tokens, report, kind, attempts.furthest),
-        LimitReached::No => of_tokens(tokens, report, queue),
+        LimitReached::By(kind) => {
+            let a = attempts(s);
+            of_limit(tokens, report, kind, a.furthest)
+        }
+        LimitReached::No => of_tokens(tokens, report, queue(s)),
     }
 }
 
-fn of_err(tokens: &mut [u32], scratch: &[u32], report: &mut [u32], s: ParserState) -> Outcome
-    requires { ⌜ Concluding (now tokens) (now scratch) (now report) s ⌝ }
-    ensures { λ r. ⌜ outcome-of r (now (tokens .exit)) (now (report .exit)) ≡ laid (length (now (tokens .entry))) (length (now (report .entry))) (pest-answer (Model.Err (view (now (tokens .entry)) (now (scratch .entry)) s))) ⌝ }
+fn of_err(tokens: &mut [u32], scratch: &[u32], report: &mut [u32], s: &[usize]) -> Outcome
+    requires { ⌜ state-size ≤ length (now s) ⌝ }
+    requires { ⌜ Concluding (now tokens) (now scratch) (now report) (fields (now s)) ⌝ }
+    ensures { λ r. ⌜ outcome-of r (now (tokens .exit)) (now (report .exit)) ≡ laid (length (now (tokens .entry))) (length (now (report .entry))) (pest-answer (Model.Err (view (now (tokens .entry)) (now (scratch .entry)) (fields (now (s .entry)))))) ⌝ }
 {
-    let t = s.tracker;
-    let attempts = s.attempts;
+    let t = tracker(s);
+    let a = attempts(s);
     let reached = t.reached;
     match reached {
-        LimitReached::By(kind) => of_limit(tokens, report, kind, attempts.furthest),
-        LimitReached::No => of_failure(tokens, scratch, report, attempts),
+        LimitReached::By(kind) => of_limit(tokens, report, kind, a.furthest),
+        LimitReached::No => of_failure(tokens, scratch, report, a),
     }
 }
 
-// The answer to an ending.
+// The answer to an ending, from the state that it left.
 pub(crate) fn conclude(
     tokens: &mut [u32],
     scratch: &[u32],
     report: &mut [u32],
+    s: &[usize],
     r: Ending,
 ) -> Outcome
-    requires { ⌜ ConcludeReady (now tokens) (now scratch) (now report) r ⌝ }
-    ensures { λ o. ⌜ outcome-of o (now (tokens .exit)) (now (report .exit)) ≡ laid (length (now (tokens .entry))) (length (now (report .entry))) (pest-answer (view-end (now (tokens .entry)) (now (scratch .entry)) r)) ⌝ }
+    requires { ⌜ state-size ≤ length (now s) ⌝ }
+    requires { ⌜ ConcludeReady (now tokens) (now scratch) (now report) (fields (now s)) r ⌝ }
+    ensures { λ o. ⌜ outcome-of o (now (tokens .exit)) (now (report .exit)) ≡ laid (length (now (tokens .entry))) (length (now (report .entry))) (pest-answer (view-end (now (tokens .entry)) (now (scratch .entry)) (fields (now (s .entry))) r)) ⌝ }
 {
     match r {
-        Ending::Ok(s) => of_ok(tokens, scratch, report, s),
-        Ending::Err(s) => of_err(tokens, scratch, report, s),
-        Ending::Stop(cause) => of_cause(tokens, report, cause),
+        Ending::Ok => of_ok(tokens, scratch, report, s),
+        Ending::Err => of_err(tokens, scratch, report, s),
+        Ending::Stop => of_cause(tokens, report, cause(s)),
     }
 }

@@ -2,38 +2,56 @@
 use crate::call_limit_tracker::Admitted;
 use crate::call_limit_tracker::LimitReached;
 use crate::call_limit_tracker::entered;
-use crate::parser_state::ParserState;
+use crate::fields::set_cause;
+use crate::fields::set_tracker;
+use crate::fields::tracker;
+use crate::parser_state::Ending;
+use reading::parser_state::Cause;
 ghost use mathlib.Core.Path.{_≡_};
 ghost use mathlib.Core.List.{List};
-ghost use Prim.Native.Nat.{ℕ};
+ghost use Prim.Native.Nat.{ℕ, _≤_};
 ghost use lib.Dec.{ltb};
+ghost use lib.ListN.{length};
+ghost use Rattle.reading.specs.Ending as Model;
 ghost use Rattle.reading.specs.Pest as Pest;
-ghost use Rattle.engine.specs.Areas.{view};
+ghost use Rattle.engine.specs.Fields.{state-size, fields};
+ghost use Rattle.engine.specs.Areas.{view, view-end};
 ghost use Rattle.engine.specs.Entry.{entering, view-entry};
 
-// The state that goes on, or the one that a refused entry answers with Err.
-pub enum Entry {
-    Open(ParserState),
-    Refused(ParserState),
-}
-
-// `depth`: how many more calls may be open.
-pub(crate) fn enter(s: ParserState, counted: bool, depth: usize) -> Entry
-    ensures { λ r. ⌜ ((tokens scratch : List ℕ) → view-entry tokens scratch r ≡ entering (ltb 0 depth) counted (view tokens scratch s)) ⌝ }
+// Whether the call is let in. `depth`: how many more calls may be open.
+pub(crate) fn enter(s: &mut [usize], counted: bool, depth: usize) -> bool
+    requires { ⌜ state-size ≤ length (now s) ⌝ }
+    ensures { λ r. ⌜ ((tokens scratch : List ℕ) → view-entry r (view tokens scratch (fields (now (s .exit)))) ≡ entering (ltb 0 depth) counted (view tokens scratch (fields (now (s .entry))))) ⌝ }
 {
-    let t = s.tracker;
+    let t = tracker(s);
     let room = 0 < depth;
     match entered(t, counted, room) {
-        Admitted::Yes(u) => Entry::Open(ParserState { tracker: u, ..s }),
-        Admitted::No(u) => Entry::Refused(ParserState { tracker: u, ..s }),
+        Admitted::Yes(u) => {
+            set_tracker(s, u);
+            true
+        }
+        Admitted::No(u) => {
+            set_tracker(s, u);
+            false
+        }
     }
 }
 
-// Whether a limit cause is set.
-pub(crate) fn limit_reached(s: ParserState) -> bool
-    ensures { λ r. ⌜ ((tokens scratch : List ℕ) → r ≡ Pest.limit-reached (view tokens scratch s)) ⌝ }
+// A stop: why, and at which line, is written into the state.
+pub(crate) fn stop(s: &mut [usize], c: Cause) -> Ending
+    requires { ⌜ state-size ≤ length (now s) ⌝ }
+    ensures { λ r. ⌜ ((tokens scratch : List ℕ) → view-end tokens scratch (fields (now (s .exit))) r ≡ Model.Stop c) ⌝ }
 {
-    let t = s.tracker;
+    set_cause(s, c);
+    Ending::Stop
+}
+
+// Whether a limit cause is set.
+pub(crate) fn limit_reached(s: &[usize]) -> bool
+    requires { ⌜ state-size ≤ length (now s) ⌝ }
+    ensures { λ r. ⌜ ((tokens scratch : List ℕ) → r ≡ Pest.limit-reached (view tokens scratch (fields (now (s .entry))))) ⌝ }
+{
+    let t = tracker(s);
     let reached = t.reached;
     match reached {
         LimitReached::By(_) => true,

@@ -1,6 +1,7 @@
 // Lines of kinds 1 to 5 only move the position. The evaluation takes them, and the forks whose left sides they are, here, where the
-// position alone goes from line to line: its whole state would be copied at each.
+// position alone goes from line to line: the state is read before and stored after them all.
 use crate::node::line_at;
+use crate::spine::is_fork;
 use crate::terminals::match_end;
 use crate::terminals::match_literal;
 use matching::position::BytePosition;
@@ -8,6 +9,7 @@ use matching::position::Matched;
 use matching::position::match_range;
 use matching::position::skip;
 ghost use mathlib.Core.Path.{_≡_};
+ghost use mathlib.Core.Bool.{true, false};
 ghost use mathlib.Core.Option.{none};
 ghost use Prim.Native.Nat.{ℕ, _≤_};
 ghost use Rattle.reading.specs.Fit.{Fit};
@@ -24,6 +26,30 @@ pub struct Halt {
     pub position: BytePosition,
     pub good: bool,
     pub done: bool,
+}
+
+// At a line that is left to others.
+fn halted(line: usize, p: BytePosition) -> Halt
+    ensures { λ r. ⌜ r ≡ record { line = line; position = p; good = false; done = false } ⌝ }
+{
+    Halt {
+        line: line,
+        position: p,
+        good: false,
+        done: false,
+    }
+}
+
+// At an ending.
+fn finished(line: usize, p: BytePosition, good: bool) -> Halt
+    ensures { λ r. ⌜ r ≡ record { line = line; position = p; good = good; done = true } ⌝ }
+{
+    Halt {
+        line: line,
+        position: p,
+        good: good,
+        done: true,
+    }
 }
 
 // A line of kind 1 to 5.
@@ -57,26 +83,11 @@ fn last<'a>(nodes: &[i32], literals: &'a [u8], text: &'a [u8], line: usize, p: B
 {
     let n = line_at(nodes, line);
     if 5 < n.kind {
-        return Halt {
-            line: line,
-            position: p,
-            good: false,
-            done: false,
-        };
+        return halted(line, p);
     }
     match leaf(nodes, literals, text, line, p) {
-        Matched::At(q) => Halt {
-            line: line,
-            position: q,
-            good: true,
-            done: true,
-        },
-        Matched::Failed => Halt {
-            line: line,
-            position: p,
-            good: false,
-            done: true,
-        },
+        Matched::At(q) => finished(line, q, true),
+        Matched::Failed => finished(line, p, false),
     }
 }
 
@@ -96,41 +107,23 @@ pub(crate) fn walk<'a>(
     let mut position = p;
     loop {
         let n = line_at(nodes, at);
-        let kind = n.kind;
-        if kind != 6 {
-            if kind != 7 {
-                return last(nodes, literals, text, at, position);
-            }
+        if !is_fork(n.kind) {
+            return last(nodes, literals, text, at, position);
         }
         let m = line_at(nodes, n.a);
         if 5 < m.kind {
-            return Halt {
-                line: at,
-                position: position,
-                good: false,
-                done: false,
-            };
+            return halted(at, position);
         }
         match leaf(nodes, literals, text, n.a, position) {
             Matched::At(q) => {
-                if kind == 7 {
-                    return Halt {
-                        line: at,
-                        position: q,
-                        good: true,
-                        done: true,
-                    };
+                if n.kind == 7 {
+                    return finished(at, q, true);
                 }
                 position = q;
             }
             Matched::Failed => {
-                if kind == 6 {
-                    return Halt {
-                        line: at,
-                        position: position,
-                        good: false,
-                        done: true,
-                    };
+                if n.kind == 6 {
+                    return finished(at, position, false);
                 }
             }
         }

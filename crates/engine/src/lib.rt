@@ -5,6 +5,7 @@ pub mod call_limit_tracker;
 mod conclude;
 mod endings;
 mod entry;
+mod fields;
 mod grammar;
 mod leaves;
 mod node;

@@ -1,7 +1,5 @@
-// pest's ParserState, over lent areas, and its combinators over node lines.
-use crate::attempts::Attempts;
+// pest's combinators over node lines.
 use crate::attempts::note;
-use crate::call_limit_tracker::CallLimitTracker;
 use crate::endings::atomic_end;
 use crate::endings::forgiven;
 use crate::endings::lookahead_end;
@@ -10,8 +8,15 @@ use crate::endings::push_end;
 use crate::endings::restore_on_err_end;
 use crate::endings::rule_end;
 use crate::endings::sequence_end;
-use crate::entry::Entry;
 use crate::entry::enter;
+use crate::fields;
+use crate::fields::attempts;
+use crate::fields::position;
+use crate::fields::queue;
+use crate::fields::set_atomicity;
+use crate::fields::set_lookahead;
+use crate::fields::set_position;
+use crate::leaves::leaf;
 use crate::leaves::walk;
 use crate::node::ends_at;
 use crate::node::line_at;
@@ -20,64 +25,31 @@ use crate::rule::tag_node;
 use crate::spine::descend;
 use crate::spine::ended;
 use crate::spine::goes_right;
-use crate::spine::rebuilt;
+use crate::spine::is_fork;
 use crate::spine::spine_at;
-use crate::stack::Stack;
 use crate::stack_state::checkpoint;
+use crate::stack_state::moved;
 use crate::stack_state::stack_match_peek_slice;
 use crate::stack_state::stack_match_pop;
 use crate::stack_state::stack_pop;
-use crate::terminals::end_of_input;
-use crate::terminals::literal;
-use crate::terminals::range;
-use crate::terminals::skip;
-use matching::position::BytePosition;
-use matching::position::TokenIndex;
 use reading::parser_state::Atomicity;
-use reading::parser_state::Cause;
 use reading::parser_state::Lookahead;
 ghost use mathlib.Core.Path.{_≡_};
-ghost use mathlib.Core.Bool.{Bool, true, false};
-ghost use Prim.Native.Nat.{ℕ, _≤_};
-ghost use Rattle.reading.specs.Grammar.{kind-at, tree-at, atomicity-of, rule, sequence, repeat, optional, lookahead, atomic, stack-push, restore-on-err};
-ghost use Rattle.reading.specs.Nullable.{nullable};
+ghost use mathlib.Core.Bool.{true, false};
+ghost use Prim.Native.Nat.{_≤_};
+ghost use lib.ListN.{length};
+ghost use Rattle.reading.specs.Grammar.{kind-at, tree-at, atomicity-of};
 ghost use Rattle.reading.specs.Pest as Pest;
+ghost use Rattle.engine.specs.Fields.{state-size, fields};
 ghost use Rattle.engine.specs.Areas.{view, view-end};
-ghost use Rattle.engine.specs.Spine.{Fork};
+ghost use Rattle.engine.specs.Spine.{Fork, left-of};
 ghost use Rattle.engine.specs.Evaluation.{Ready, Line, evaluated, opens-call};
 
-// pest's `ParserState`, whose Vecs stand in lent areas. `queue`: how many tokens it holds.
-pub struct ParserState {
-    pub position: BytePosition,
-    pub queue: TokenIndex,
-    pub attempts: Attempts,
-    pub stack: Stack,
-    pub tracker: CallLimitTracker,
-    pub lookahead: Lookahead,
-    pub atomicity: Atomicity,
-}
-
-// "Evaluation ends Ok, Err, or in a stop that names its cause."
+// "Evaluation ends Ok, Err, or in a stop that names its cause." The state that it left, and the cause in it, stand where they were lent.
 pub enum Ending {
-    Ok(ParserState),
-    Err(ParserState),
-    Stop(Cause),
-}
-
-// Whether a kind opens a call: 8 to 14, 18, and 20, which is its line.
-fn opens(kind: usize) -> bool
-    ensures { λ r. ⌜ r ≡ opens-call kind ⌝ }
-{
-    if kind < 8 {
-        return false;
-    }
-    if kind <= 14 {
-        return true;
-    }
-    if kind == 18 {
-        return true;
-    }
-    kind == 20
+    Ok,
+    Err,
+    Stop,
 }
 
 // "b 0 Atomic, 1 CompoundAtomic, 2 NonAtomic"
@@ -117,144 +89,113 @@ fn terminal<'a>(
     text: &'a [u8],
     tokens: &mut [u32],
     scratch: &mut [u32],
-    capacity: usize,
+    s: &mut [usize],
+    room: usize,
     depth: usize,
     line: usize,
-    s: ParserState,
 ) -> Ending
-    requires { ⌜ Ready (now nodes) (now literals) (now text) (now tokens) (now scratch) capacity depth (view (now tokens) (now scratch) s) ⌝ }
+    requires { ⌜ Ready (now nodes) (now literals) (now text) (now tokens) (now scratch) room depth (view (now tokens) (now scratch) (fields (now s))) × (state-size ≤ length (now s)) ⌝ }
     requires { ⌜ Line (now nodes) line × (Fork (kind-at (now nodes) line) → ⊥) × (opens-call (kind-at (now nodes) line) ≡ false) ⌝ }
-    ensures { λ r. ⌜ view-end (now (tokens .exit)) (now (scratch .exit)) r ≡ evaluated (now (nodes .entry)) (now (literals .entry)) (now (text .entry)) capacity depth (tree-at (now (nodes .entry)) (now (literals .entry)) line) (view (now (tokens .entry)) (now (scratch .entry)) s) ⌝ }
+    ensures { λ r. ⌜ view-end (now (tokens .exit)) (now (scratch .exit)) (fields (now (s .exit))) r ≡ evaluated (now (nodes .entry)) (now (literals .entry)) (now (text .entry)) room depth (tree-at (now (nodes .entry)) (now (literals .entry)) line) (view (now (tokens .entry)) (now (scratch .entry)) (fields (now (s .entry)))) ⌝ }
 {
     let n = line_at(nodes, line);
     let kind = n.kind;
     match kind {
-        1 => literal(literals, text, n.a, n.b, false, s),
-        2 => literal(literals, text, n.a, n.b, true, s),
-        3 => range(text, n.a as u32, n.b as u32, s),
-        4 => skip(text, n.a, s),
-        5 => end_of_input(text, s),
-        15 => stack_pop(text, scratch, line as u32, s),
+        15 => stack_pop(text, scratch, s, line as u32),
         16 => {
             let e = ends_at(nodes, line);
-            stack_match_peek_slice(text, scratch, e.start, e.end, n.c, s)
+            stack_match_peek_slice(text, scratch, s, e.start, e.end, n.c)
         }
-        17 => stack_match_pop(text, scratch, line as u32, s),
-        _ => tag_node(tokens, n.a as u32, s),
+        17 => stack_match_pop(text, scratch, s, line as u32),
+        19 => tag_node(tokens, s, n.a as u32),
+        _ => {
+            let p = position(s);
+            moved(s, leaf(nodes, literals, text, line, p))
+        }
     }
 }
 
-// ── The evaluation: the combinators and `node` call one another. Each call of `node` has less depth left, or a lower line. ──
+// ── The evaluation: the combinators and `node` call one another. Each call of `node` has less depth left, or a lower line. `s` is the
+// state (fields.rt), `room` how many tokens the area has room for, `depth` how many more calls may be open. ──
 
-// The line: kinds 6 and 7 are walked here. From the current line down by left sides; then, from the leftmost line up, each right
-// side whose left side ended as its kind asks; the top line's right side is the loop's next line.
+// The line. Kinds 6 and 7 are walked here: a fork's left side, and then, if it ended as the kind asks, its right side as the loop's next
+// line, so that no native stack is taken for it.
 pub(crate) fn node<'a>(
     nodes: &[i32],
     literals: &'a [u8],
     text: &'a [u8],
     tokens: &mut [u32],
     scratch: &mut [u32],
-    capacity: usize,
+    s: &mut [usize],
+    room: usize,
     depth: usize,
     line: usize,
-    s: ParserState,
 ) -> Ending
-    requires { ⌜ Ready (now nodes) (now literals) (now text) (now tokens) (now scratch) capacity depth (view (now tokens) (now scratch) s) ⌝ }
+    requires { ⌜ Ready (now nodes) (now literals) (now text) (now tokens) (now scratch) room depth (view (now tokens) (now scratch) (fields (now s))) × (state-size ≤ length (now s)) ⌝ }
     requires { ⌜ Line (now nodes) line ⌝ }
-    ensures { λ r. ⌜ view-end (now (tokens .exit)) (now (scratch .exit)) r ≡ evaluated (now (nodes .entry)) (now (literals .entry)) (now (text .entry)) capacity depth (tree-at (now (nodes .entry)) (now (literals .entry)) line) (view (now (tokens .entry)) (now (scratch .entry)) s) ⌝ }
+    ensures { λ r. ⌜ view-end (now (tokens .exit)) (now (scratch .exit)) (fields (now (s .exit))) r ≡ evaluated (now (nodes .entry)) (now (literals .entry)) (now (text .entry)) room depth (tree-at (now (nodes .entry)) (now (literals .entry)) line) (view (now (tokens .entry)) (now (scratch .entry)) (fields (now (s .entry)))) ⌝ }
 {
     let mut at = line;
-    let mut now = s;
     loop {
-        let p = now.position;
+        let p = position(s);
         let w = walk(nodes, literals, text, at, p);
         let q = w.position;
-        now.position = q;
+        set_position(s, q);
         if w.done {
-            return ended(w.good, now);
+            return ended(w.good);
         }
         at = w.line;
-        let low = descend(nodes, at);
-        let count = low.count;
-        if count == 0 {
-            let r = simple(
-                nodes,
-                literals,
-                text,
-                tokens,
-                scratch,
-                capacity,
-                depth,
-                at,
-                now,
-            );
-            return rebuilt(r);
+        let n = line_at(nodes, at);
+        if !is_fork(n.kind) {
+            return simple(nodes, literals, text, tokens, scratch, s, room, depth, at);
         }
-        let mut good = true;
-        let r = simple(
-            nodes,
-            literals,
-            text,
-            tokens,
-            scratch,
-            capacity,
-            depth,
-            low.line,
-            now,
-        );
-        let e = rebuilt(r);
-        match e {
-            Ending::Ok(t) => {
-                now = t;
-            }
-            Ending::Err(t) => {
-                now = t;
-                good = false;
-            }
-            Ending::Stop(_) => {
-                return e;
-            }
+        let e = left_side(nodes, literals, text, tokens, scratch, s, room, depth, at);
+        if !goes_right(n.kind, e) {
+            return e;
         }
-        let mut i = count;
-        while i > 1 {
-            i -= 1;
-            let l = spine_at(nodes, at, i);
-            let n = line_at(nodes, l);
-            if goes_right(n.kind, good) {
-                let r = node(
-                    nodes,
-                    literals,
-                    text,
-                    tokens,
-                    scratch,
-                    capacity,
-                    depth,
-                    n.b,
-                    now,
-                );
-                let f = rebuilt(r);
-                match f {
-                    Ending::Ok(t) => {
-                        now = t;
-                        good = true;
-                    }
-                    Ending::Err(t) => {
-                        now = t;
-                        good = false;
-                    }
-                    Ending::Stop(_) => {
-                        return f;
-                    }
-                }
-            }
-        }
-        let m = line_at(nodes, at);
-        if goes_right(m.kind, good) {
-            at = m.b;
-        } else {
-            return ended(good, now);
+        at = n.b;
+    }
+}
+
+// The left side of a fork: from its leftmost line up, each right side whose left side ended as its kind asks. Left sides below left sides
+// take no native stack.
+fn left_side<'a>(
+    nodes: &[i32],
+    literals: &'a [u8],
+    text: &'a [u8],
+    tokens: &mut [u32],
+    scratch: &mut [u32],
+    s: &mut [usize],
+    room: usize,
+    depth: usize,
+    line: usize,
+) -> Ending
+    requires { ⌜ Ready (now nodes) (now literals) (now text) (now tokens) (now scratch) room depth (view (now tokens) (now scratch) (fields (now s))) × (state-size ≤ length (now s)) ⌝ }
+    requires { ⌜ Line (now nodes) line × Fork (kind-at (now nodes) line) ⌝ }
+    ensures { λ r. ⌜ view-end (now (tokens .exit)) (now (scratch .exit)) (fields (now (s .exit))) r ≡ evaluated (now (nodes .entry)) (now (literals .entry)) (now (text .entry)) room depth (tree-at (now (nodes .entry)) (now (literals .entry)) (left-of (now (nodes .entry)) line)) (view (now (tokens .entry)) (now (scratch .entry)) (fields (now (s .entry)))) ⌝ }
+{
+    let low = descend(nodes, line);
+    let mut e = simple(
+        nodes,
+        literals,
+        text,
+        tokens,
+        scratch,
+        s,
+        room,
+        depth,
+        low.line,
+    );
+    let mut i = low.count;
+    while i > 1 {
+        i -= 1;
+        let l = spine_at(nodes, line, i);
+        let n = line_at(nodes, l);
+        if goes_right(n.kind, e) {
+            e = node(nodes, literals, text, tokens, scratch, s, room, depth, n.b);
         }
     }
+    e
 }
 
 // A line that is no fork.
@@ -264,228 +205,64 @@ fn simple<'a>(
     text: &'a [u8],
     tokens: &mut [u32],
     scratch: &mut [u32],
-    capacity: usize,
+    s: &mut [usize],
+    room: usize,
     depth: usize,
     line: usize,
-    s: ParserState,
 ) -> Ending
-    requires { ⌜ Ready (now nodes) (now literals) (now text) (now tokens) (now scratch) capacity depth (view (now tokens) (now scratch) s) ⌝ }
+    requires { ⌜ Ready (now nodes) (now literals) (now text) (now tokens) (now scratch) room depth (view (now tokens) (now scratch) (fields (now s))) × (state-size ≤ length (now s)) ⌝ }
     requires { ⌜ Line (now nodes) line × (Fork (kind-at (now nodes) line) → ⊥) ⌝ }
-    ensures { λ r. ⌜ view-end (now (tokens .exit)) (now (scratch .exit)) r ≡ evaluated (now (nodes .entry)) (now (literals .entry)) (now (text .entry)) capacity depth (tree-at (now (nodes .entry)) (now (literals .entry)) line) (view (now (tokens .entry)) (now (scratch .entry)) s) ⌝ }
-{
-    let n = line_at(nodes, line);
-    if opens(n.kind) {
-        opened(
-            nodes,
-            literals,
-            text,
-            tokens,
-            scratch,
-            capacity,
-            depth,
-            line,
-            s,
-        )
-    } else {
-        terminal(
-            nodes,
-            literals,
-            text,
-            tokens,
-            scratch,
-            capacity,
-            depth,
-            line,
-            s,
-        )
-    }
-}
-
-// A line that opens a call.
-fn opened<'a>(
-    nodes: &[i32],
-    literals: &'a [u8],
-    text: &'a [u8],
-    tokens: &mut [u32],
-    scratch: &mut [u32],
-    capacity: usize,
-    depth: usize,
-    line: usize,
-    s: ParserState,
-) -> Ending
-    requires { ⌜ Ready (now nodes) (now literals) (now text) (now tokens) (now scratch) capacity depth (view (now tokens) (now scratch) s) ⌝ }
-    requires { ⌜ Line (now nodes) line × (opens-call (kind-at (now nodes) line) ≡ true) ⌝ }
-    ensures { λ r. ⌜ view-end (now (tokens .exit)) (now (scratch .exit)) r ≡ evaluated (now (nodes .entry)) (now (literals .entry)) (now (text .entry)) capacity depth (tree-at (now (nodes .entry)) (now (literals .entry)) line) (view (now (tokens .entry)) (now (scratch .entry)) s) ⌝ }
+    ensures { λ r. ⌜ view-end (now (tokens .exit)) (now (scratch .exit)) (fields (now (s .exit))) r ≡ evaluated (now (nodes .entry)) (now (literals .entry)) (now (text .entry)) room depth (tree-at (now (nodes .entry)) (now (literals .entry)) line) (view (now (tokens .entry)) (now (scratch .entry)) (fields (now (s .entry)))) ⌝ }
 {
     let n = line_at(nodes, line);
     let kind = n.kind;
     match kind {
-        8 => rule(
-            nodes,
-            literals,
-            text,
-            tokens,
-            scratch,
-            capacity,
-            depth,
-            line,
-            n.a,
-            n.b,
-            s,
-        ),
-        9 => sequence(
-            nodes,
-            literals,
-            text,
-            tokens,
-            scratch,
-            capacity,
-            depth,
-            n.a,
-            s,
-        ),
-        10 => repeat(
-            nodes,
-            literals,
-            text,
-            tokens,
-            scratch,
-            capacity,
-            depth,
-            n.a,
-            s,
-        ),
-        11 => optional(
-            nodes,
-            literals,
-            text,
-            tokens,
-            scratch,
-            capacity,
-            depth,
-            n.a,
-            s,
-        ),
-        12 => lookahead(
-            nodes,
-            literals,
-            text,
-            tokens,
-            scratch,
-            capacity,
-            depth,
-            n.b == 1,
-            n.a,
-            s,
-        ),
-        13 => atomic(
-            nodes,
-            literals,
-            text,
-            tokens,
-            scratch,
-            capacity,
-            depth,
-            atomicity_of(n.b),
-            n.a,
-            s,
-        ),
-        14 => stack_push(
-            nodes,
-            literals,
-            text,
-            tokens,
-            scratch,
-            capacity,
-            depth,
-            line,
-            n.a,
-            s,
-        ),
-        18 => restore_on_err(
-            nodes,
-            literals,
-            text,
-            tokens,
-            scratch,
-            capacity,
-            depth,
-            n.a,
-            s,
-        ),
-        _ => {
-            let m = line_at(nodes, n.a);
-            rule(
-                nodes,
-                literals,
-                text,
-                tokens,
-                scratch,
-                capacity,
-                depth,
-                n.a,
-                m.a,
-                m.b,
-                s,
-            )
-        }
+        8 => rule(nodes, literals, text, tokens, scratch, s, room, depth, line),
+        9 => sequence(nodes, literals, text, tokens, scratch, s, room, depth, line),
+        10 => repeat(nodes, literals, text, tokens, scratch, s, room, depth, line),
+        11 => optional(nodes, literals, text, tokens, scratch, s, room, depth, line),
+        12 => lookahead(nodes, literals, text, tokens, scratch, s, room, depth, line),
+        13 => atomic(nodes, literals, text, tokens, scratch, s, room, depth, line),
+        14 => stack_push(nodes, literals, text, tokens, scratch, s, room, depth, line),
+        18 => restore_on_err(nodes, literals, text, tokens, scratch, s, room, depth, line),
+        20 => rule(nodes, literals, text, tokens, scratch, s, room, depth, n.a),
+        _ => terminal(nodes, literals, text, tokens, scratch, s, room, depth, line),
     }
 }
 
-// The rule `number` at `line`.
+// pest's `rule`.
 fn rule<'a>(
     nodes: &[i32],
     literals: &'a [u8],
     text: &'a [u8],
     tokens: &mut [u32],
     scratch: &mut [u32],
-    capacity: usize,
+    s: &mut [usize],
+    room: usize,
     depth: usize,
     line: usize,
-    number: usize,
-    body: usize,
-    s: ParserState,
 ) -> Ending
-    requires { ⌜ Ready (now nodes) (now literals) (now text) (now tokens) (now scratch) capacity depth (view (now tokens) (now scratch) s) ⌝ }
-    requires { ⌜ Line (now nodes) body × (line ≤ 4096) × (number ≤ 65535) ⌝ }
-    ensures { λ r. ⌜ view-end (now (tokens .exit)) (now (scratch .exit)) r ≡ evaluated (now (nodes .entry)) (now (literals .entry)) (now (text .entry)) capacity depth (rule line number (tree-at (now (nodes .entry)) (now (literals .entry)) body)) (view (now (tokens .entry)) (now (scratch .entry)) s) ⌝ }
+    requires { ⌜ Ready (now nodes) (now literals) (now text) (now tokens) (now scratch) room depth (view (now tokens) (now scratch) (fields (now s))) × (state-size ≤ length (now s)) ⌝ }
+    requires { ⌜ Line (now nodes) line × (kind-at (now nodes) line ≡ 8) ⌝ }
+    ensures { λ r. ⌜ view-end (now (tokens .exit)) (now (scratch .exit)) (fields (now (s .exit))) r ≡ evaluated (now (nodes .entry)) (now (literals .entry)) (now (text .entry)) room depth (tree-at (now (nodes .entry)) (now (literals .entry)) line) (view (now (tokens .entry)) (now (scratch .entry)) (fields (now (s .entry)))) ⌝ }
 {
-    match enter(s, true, depth) {
-        Entry::Refused(t) => Ending::Err(t),
-        Entry::Open(t) => {
-            let a = t.attempts;
-            let p = t.position;
-            let q = t.queue;
-            let n = note(a, p);
-            match start_rule(tokens, capacity, line as u32, t) {
-                Ending::Ok(u) => {
-                    let r = node(
-                        nodes,
-                        literals,
-                        text,
-                        tokens,
-                        scratch,
-                        capacity,
-                        depth - 1,
-                        body,
-                        u,
-                    );
-                    rule_end(
-                        tokens,
-                        scratch,
-                        capacity,
-                        line as u32,
-                        number as u32,
-                        p,
-                        q,
-                        n,
-                        r,
-                    )
-                }
-                Ending::Err(u) => Ending::Err(u),
-                Ending::Stop(c) => Ending::Stop(c),
-            }
+    let n = line_at(nodes, line);
+    if !enter(s, true, depth) {
+        return Ending::Err;
+    }
+    let p = position(s);
+    let q = queue(s);
+    let noted = note(attempts(s), p);
+    match start_rule(tokens, s, room, line as u32) {
+        Ending::Ok => {
+            let deeper = depth - 1;
+            let r = node(nodes, literals, text, tokens, scratch, s, room, deeper, n.b);
+            let number = n.a as u32;
+            let at = line as u32;
+            rule_end(tokens, scratch, s, room, at, number, p, q, noted, r)
         }
+        Ending::Err => Ending::Err,
+        Ending::Stop => Ending::Stop,
     }
 }
 
@@ -496,35 +273,25 @@ fn sequence<'a>(
     text: &'a [u8],
     tokens: &mut [u32],
     scratch: &mut [u32],
-    capacity: usize,
+    s: &mut [usize],
+    room: usize,
     depth: usize,
-    body: usize,
-    s: ParserState,
+    line: usize,
 ) -> Ending
-    requires { ⌜ Ready (now nodes) (now literals) (now text) (now tokens) (now scratch) capacity depth (view (now tokens) (now scratch) s) ⌝ }
-    requires { ⌜ Line (now nodes) body ⌝ }
-    ensures { λ r. ⌜ view-end (now (tokens .exit)) (now (scratch .exit)) r ≡ evaluated (now (nodes .entry)) (now (literals .entry)) (now (text .entry)) capacity depth (sequence (tree-at (now (nodes .entry)) (now (literals .entry)) body)) (view (now (tokens .entry)) (now (scratch .entry)) s) ⌝ }
+    requires { ⌜ Ready (now nodes) (now literals) (now text) (now tokens) (now scratch) room depth (view (now tokens) (now scratch) (fields (now s))) × (state-size ≤ length (now s)) ⌝ }
+    requires { ⌜ Line (now nodes) line × (kind-at (now nodes) line ≡ 9) ⌝ }
+    ensures { λ r. ⌜ view-end (now (tokens .exit)) (now (scratch .exit)) (fields (now (s .exit))) r ≡ evaluated (now (nodes .entry)) (now (literals .entry)) (now (text .entry)) room depth (tree-at (now (nodes .entry)) (now (literals .entry)) line) (view (now (tokens .entry)) (now (scratch .entry)) (fields (now (s .entry)))) ⌝ }
 {
-    match enter(s, true, depth) {
-        Entry::Refused(t) => Ending::Err(t),
-        Entry::Open(t) => {
-            let p = t.position;
-            let q = t.queue;
-            let u = checkpoint(scratch, t);
-            let r = node(
-                nodes,
-                literals,
-                text,
-                tokens,
-                scratch,
-                capacity,
-                depth - 1,
-                body,
-                u,
-            );
-            sequence_end(scratch, p, q, r)
-        }
+    let n = line_at(nodes, line);
+    if !enter(s, true, depth) {
+        return Ending::Err;
     }
+    let p = position(s);
+    let q = queue(s);
+    checkpoint(scratch, s);
+    let deeper = depth - 1;
+    let r = node(nodes, literals, text, tokens, scratch, s, room, deeper, n.a);
+    sequence_end(scratch, s, p, q, r)
 }
 
 // pest's `repeat`. The body moves on Ok, so that the loop ends.
@@ -534,41 +301,28 @@ fn repeat<'a>(
     text: &'a [u8],
     tokens: &mut [u32],
     scratch: &mut [u32],
-    capacity: usize,
+    s: &mut [usize],
+    room: usize,
     depth: usize,
-    body: usize,
-    s: ParserState,
+    line: usize,
 ) -> Ending
-    requires { ⌜ Ready (now nodes) (now literals) (now text) (now tokens) (now scratch) capacity depth (view (now tokens) (now scratch) s) ⌝ }
-    requires { ⌜ Line (now nodes) body × (nullable (now nodes) body ≡ false) ⌝ }
-    ensures { λ r. ⌜ view-end (now (tokens .exit)) (now (scratch .exit)) r ≡ evaluated (now (nodes .entry)) (now (literals .entry)) (now (text .entry)) capacity depth (repeat (tree-at (now (nodes .entry)) (now (literals .entry)) body)) (view (now (tokens .entry)) (now (scratch .entry)) s) ⌝ }
+    requires { ⌜ Ready (now nodes) (now literals) (now text) (now tokens) (now scratch) room depth (view (now tokens) (now scratch) (fields (now s))) × (state-size ≤ length (now s)) ⌝ }
+    requires { ⌜ Line (now nodes) line × (kind-at (now nodes) line ≡ 10) ⌝ }
+    ensures { λ r. ⌜ view-end (now (tokens .exit)) (now (scratch .exit)) (fields (now (s .exit))) r ≡ evaluated (now (nodes .entry)) (now (literals .entry)) (now (text .entry)) room depth (tree-at (now (nodes .entry)) (now (literals .entry)) line) (view (now (tokens .entry)) (now (scratch .entry)) (fields (now (s .entry)))) ⌝ }
 {
-    match enter(s, true, depth) {
-        Entry::Refused(t) => Ending::Err(t),
-        Entry::Open(t) => {
-            let mut at = t;
-            loop {
-                match node(
-                    nodes,
-                    literals,
-                    text,
-                    tokens,
-                    scratch,
-                    capacity,
-                    depth - 1,
-                    body,
-                    at,
-                ) {
-                    Ending::Ok(v) => {
-                        at = v;
-                    }
-                    Ending::Err(v) => {
-                        return forgiven(v);
-                    }
-                    Ending::Stop(c) => {
-                        return Ending::Stop(c);
-                    }
-                }
+    let n = line_at(nodes, line);
+    if !enter(s, true, depth) {
+        return Ending::Err;
+    }
+    let deeper = depth - 1;
+    loop {
+        match node(nodes, literals, text, tokens, scratch, s, room, deeper, n.a) {
+            Ending::Ok => {}
+            Ending::Err => {
+                return forgiven(s);
+            }
+            Ending::Stop => {
+                return Ending::Stop;
             }
         }
     }
@@ -581,32 +335,22 @@ fn optional<'a>(
     text: &'a [u8],
     tokens: &mut [u32],
     scratch: &mut [u32],
-    capacity: usize,
+    s: &mut [usize],
+    room: usize,
     depth: usize,
-    body: usize,
-    s: ParserState,
+    line: usize,
 ) -> Ending
-    requires { ⌜ Ready (now nodes) (now literals) (now text) (now tokens) (now scratch) capacity depth (view (now tokens) (now scratch) s) ⌝ }
-    requires { ⌜ Line (now nodes) body ⌝ }
-    ensures { λ r. ⌜ view-end (now (tokens .exit)) (now (scratch .exit)) r ≡ evaluated (now (nodes .entry)) (now (literals .entry)) (now (text .entry)) capacity depth (optional (tree-at (now (nodes .entry)) (now (literals .entry)) body)) (view (now (tokens .entry)) (now (scratch .entry)) s) ⌝ }
+    requires { ⌜ Ready (now nodes) (now literals) (now text) (now tokens) (now scratch) room depth (view (now tokens) (now scratch) (fields (now s))) × (state-size ≤ length (now s)) ⌝ }
+    requires { ⌜ Line (now nodes) line × (kind-at (now nodes) line ≡ 11) ⌝ }
+    ensures { λ r. ⌜ view-end (now (tokens .exit)) (now (scratch .exit)) (fields (now (s .exit))) r ≡ evaluated (now (nodes .entry)) (now (literals .entry)) (now (text .entry)) room depth (tree-at (now (nodes .entry)) (now (literals .entry)) line) (view (now (tokens .entry)) (now (scratch .entry)) (fields (now (s .entry)))) ⌝ }
 {
-    match enter(s, true, depth) {
-        Entry::Refused(t) => Ending::Err(t),
-        Entry::Open(t) => {
-            let r = node(
-                nodes,
-                literals,
-                text,
-                tokens,
-                scratch,
-                capacity,
-                depth - 1,
-                body,
-                t,
-            );
-            optional_end(r)
-        }
+    let n = line_at(nodes, line);
+    if !enter(s, true, depth) {
+        return Ending::Err;
     }
+    let deeper = depth - 1;
+    let r = node(nodes, literals, text, tokens, scratch, s, room, deeper, n.a);
+    optional_end(s, r)
 }
 
 // pest's `lookahead`.
@@ -616,41 +360,27 @@ fn lookahead<'a>(
     text: &'a [u8],
     tokens: &mut [u32],
     scratch: &mut [u32],
-    capacity: usize,
+    s: &mut [usize],
+    room: usize,
     depth: usize,
-    positive: bool,
-    body: usize,
-    s: ParserState,
+    line: usize,
 ) -> Ending
-    requires { ⌜ Ready (now nodes) (now literals) (now text) (now tokens) (now scratch) capacity depth (view (now tokens) (now scratch) s) ⌝ }
-    requires { ⌜ Line (now nodes) body ⌝ }
-    ensures { λ r. ⌜ view-end (now (tokens .exit)) (now (scratch .exit)) r ≡ evaluated (now (nodes .entry)) (now (literals .entry)) (now (text .entry)) capacity depth (lookahead positive (tree-at (now (nodes .entry)) (now (literals .entry)) body)) (view (now (tokens .entry)) (now (scratch .entry)) s) ⌝ }
+    requires { ⌜ Ready (now nodes) (now literals) (now text) (now tokens) (now scratch) room depth (view (now tokens) (now scratch) (fields (now s))) × (state-size ≤ length (now s)) ⌝ }
+    requires { ⌜ Line (now nodes) line × (kind-at (now nodes) line ≡ 12) ⌝ }
+    ensures { λ r. ⌜ view-end (now (tokens .exit)) (now (scratch .exit)) (fields (now (s .exit))) r ≡ evaluated (now (nodes .entry)) (now (literals .entry)) (now (text .entry)) room depth (tree-at (now (nodes .entry)) (now (literals .entry)) line) (view (now (tokens .entry)) (now (scratch .entry)) (fields (now (s .entry)))) ⌝ }
 {
-    match enter(s, true, depth) {
-        Entry::Refused(t) => Ending::Err(t),
-        Entry::Open(t) => {
-            let p = t.position;
-            let l = t.lookahead;
-            let inside = lookahead_in(positive, l);
-            let looking = ParserState {
-                lookahead: inside,
-                ..t
-            };
-            let u = checkpoint(scratch, looking);
-            let r = node(
-                nodes,
-                literals,
-                text,
-                tokens,
-                scratch,
-                capacity,
-                depth - 1,
-                body,
-                u,
-            );
-            lookahead_end(scratch, positive, l, p, r)
-        }
+    let n = line_at(nodes, line);
+    if !enter(s, true, depth) {
+        return Ending::Err;
     }
+    let p = position(s);
+    let l = fields::lookahead(s);
+    let positive = n.b == 1;
+    set_lookahead(s, lookahead_in(positive, l));
+    checkpoint(scratch, s);
+    let deeper = depth - 1;
+    let r = node(nodes, literals, text, tokens, scratch, s, room, deeper, n.a);
+    lookahead_end(scratch, s, positive, l, p, r)
 }
 
 // pest's `atomic`.
@@ -660,38 +390,24 @@ fn atomic<'a>(
     text: &'a [u8],
     tokens: &mut [u32],
     scratch: &mut [u32],
-    capacity: usize,
+    s: &mut [usize],
+    room: usize,
     depth: usize,
-    atomicity: Atomicity,
-    body: usize,
-    s: ParserState,
+    line: usize,
 ) -> Ending
-    requires { ⌜ Ready (now nodes) (now literals) (now text) (now tokens) (now scratch) capacity depth (view (now tokens) (now scratch) s) ⌝ }
-    requires { ⌜ Line (now nodes) body ⌝ }
-    ensures { λ r. ⌜ view-end (now (tokens .exit)) (now (scratch .exit)) r ≡ evaluated (now (nodes .entry)) (now (literals .entry)) (now (text .entry)) capacity depth (atomic atomicity (tree-at (now (nodes .entry)) (now (literals .entry)) body)) (view (now (tokens .entry)) (now (scratch .entry)) s) ⌝ }
+    requires { ⌜ Ready (now nodes) (now literals) (now text) (now tokens) (now scratch) room depth (view (now tokens) (now scratch) (fields (now s))) × (state-size ≤ length (now s)) ⌝ }
+    requires { ⌜ Line (now nodes) line × (kind-at (now nodes) line ≡ 13) ⌝ }
+    ensures { λ r. ⌜ view-end (now (tokens .exit)) (now (scratch .exit)) (fields (now (s .exit))) r ≡ evaluated (now (nodes .entry)) (now (literals .entry)) (now (text .entry)) room depth (tree-at (now (nodes .entry)) (now (literals .entry)) line) (view (now (tokens .entry)) (now (scratch .entry)) (fields (now (s .entry)))) ⌝ }
 {
-    match enter(s, true, depth) {
-        Entry::Refused(t) => Ending::Err(t),
-        Entry::Open(t) => {
-            let before = t.atomicity;
-            let u = ParserState {
-                atomicity: atomicity,
-                ..t
-            };
-            let r = node(
-                nodes,
-                literals,
-                text,
-                tokens,
-                scratch,
-                capacity,
-                depth - 1,
-                body,
-                u,
-            );
-            atomic_end(before, r)
-        }
+    let n = line_at(nodes, line);
+    if !enter(s, true, depth) {
+        return Ending::Err;
     }
+    let before = fields::atomicity(s);
+    set_atomicity(s, atomicity_of(n.b));
+    let deeper = depth - 1;
+    let r = node(nodes, literals, text, tokens, scratch, s, room, deeper, n.a);
+    atomic_end(s, before, r)
 }
 
 // pest's `stack_push`.
@@ -701,34 +417,23 @@ fn stack_push<'a>(
     text: &'a [u8],
     tokens: &mut [u32],
     scratch: &mut [u32],
-    capacity: usize,
+    s: &mut [usize],
+    room: usize,
     depth: usize,
     line: usize,
-    body: usize,
-    s: ParserState,
 ) -> Ending
-    requires { ⌜ Ready (now nodes) (now literals) (now text) (now tokens) (now scratch) capacity depth (view (now tokens) (now scratch) s) ⌝ }
-    requires { ⌜ Line (now nodes) body × (line ≤ 4096) ⌝ }
-    ensures { λ r. ⌜ view-end (now (tokens .exit)) (now (scratch .exit)) r ≡ evaluated (now (nodes .entry)) (now (literals .entry)) (now (text .entry)) capacity depth (stack-push line (tree-at (now (nodes .entry)) (now (literals .entry)) body)) (view (now (tokens .entry)) (now (scratch .entry)) s) ⌝ }
+    requires { ⌜ Ready (now nodes) (now literals) (now text) (now tokens) (now scratch) room depth (view (now tokens) (now scratch) (fields (now s))) × (state-size ≤ length (now s)) ⌝ }
+    requires { ⌜ Line (now nodes) line × (kind-at (now nodes) line ≡ 14) ⌝ }
+    ensures { λ r. ⌜ view-end (now (tokens .exit)) (now (scratch .exit)) (fields (now (s .exit))) r ≡ evaluated (now (nodes .entry)) (now (literals .entry)) (now (text .entry)) room depth (tree-at (now (nodes .entry)) (now (literals .entry)) line) (view (now (tokens .entry)) (now (scratch .entry)) (fields (now (s .entry)))) ⌝ }
 {
-    match enter(s, true, depth) {
-        Entry::Refused(t) => Ending::Err(t),
-        Entry::Open(t) => {
-            let p = t.position;
-            let r = node(
-                nodes,
-                literals,
-                text,
-                tokens,
-                scratch,
-                capacity,
-                depth - 1,
-                body,
-                t,
-            );
-            push_end(scratch, line as u32, p, r)
-        }
+    let n = line_at(nodes, line);
+    if !enter(s, true, depth) {
+        return Ending::Err;
     }
+    let p = position(s);
+    let deeper = depth - 1;
+    let r = node(nodes, literals, text, tokens, scratch, s, room, deeper, n.a);
+    push_end(scratch, s, line as u32, p, r)
 }
 
 // pest's `restore_on_err`: its entry is not counted.
@@ -738,31 +443,21 @@ fn restore_on_err<'a>(
     text: &'a [u8],
     tokens: &mut [u32],
     scratch: &mut [u32],
-    capacity: usize,
+    s: &mut [usize],
+    room: usize,
     depth: usize,
-    body: usize,
-    s: ParserState,
+    line: usize,
 ) -> Ending
-    requires { ⌜ Ready (now nodes) (now literals) (now text) (now tokens) (now scratch) capacity depth (view (now tokens) (now scratch) s) ⌝ }
-    requires { ⌜ Line (now nodes) body ⌝ }
-    ensures { λ r. ⌜ view-end (now (tokens .exit)) (now (scratch .exit)) r ≡ evaluated (now (nodes .entry)) (now (literals .entry)) (now (text .entry)) capacity depth (restore-on-err (tree-at (now (nodes .entry)) (now (literals .entry)) body)) (view (now (tokens .entry)) (now (scratch .entry)) s) ⌝ }
+    requires { ⌜ Ready (now nodes) (now literals) (now text) (now tokens) (now scratch) room depth (view (now tokens) (now scratch) (fields (now s))) × (state-size ≤ length (now s)) ⌝ }
+    requires { ⌜ Line (now nodes) line × (kind-at (now nodes) line ≡ 18) ⌝ }
+    ensures { λ r. ⌜ view-end (now (tokens .exit)) (now (scratch .exit)) (fields (now (s .exit))) r ≡ evaluated (now (nodes .entry)) (now (literals .entry)) (now (text .entry)) room depth (tree-at (now (nodes .entry)) (now (literals .entry)) line) (view (now (tokens .entry)) (now (scratch .entry)) (fields (now (s .entry)))) ⌝ }
 {
-    match enter(s, false, depth) {
-        Entry::Refused(t) => Ending::Err(t),
-        Entry::Open(t) => {
-            let u = checkpoint(scratch, t);
-            let r = node(
-                nodes,
-                literals,
-                text,
-                tokens,
-                scratch,
-                capacity,
-                depth - 1,
-                body,
-                u,
-            );
-            restore_on_err_end(scratch, r)
-        }
+    let n = line_at(nodes, line);
+    if !enter(s, false, depth) {
+        return Ending::Err;
     }
+    checkpoint(scratch, s);
+    let deeper = depth - 1;
+    let r = node(nodes, literals, text, tokens, scratch, s, room, deeper, n.a);
+    restore_on_err_end(scratch, s, r)
 }

@@ -3,8 +3,8 @@
 use matching::position::BytePosition;
 use matching::position::TokenIndex;
 ghost use mathlib.Core.Path.{_≡_};
-ghost use mathlib.Core.List.{List, []};
-ghost use Prim.Native.Nat.{ℕ, _+_, _*_, _≤_};
+ghost use mathlib.Core.List.{[]};
+ghost use Prim.Native.Nat.{_+_, _*_, _≤_};
 ghost use lib.ListN.{length, take};
 ghost use Rattle.reading.specs.Pest.{Start, End};
 ghost use Rattle.engine.specs.Areas.{queue-of};

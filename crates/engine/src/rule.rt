@@ -2,8 +2,15 @@
 use crate::attempts::Noted;
 use crate::attempts::Tracked;
 use crate::attempts::track;
+use crate::entry::stop;
+use crate::fields::atomicity;
+use crate::fields::attempts;
+use crate::fields::lookahead;
+use crate::fields::position;
+use crate::fields::queue;
+use crate::fields::set_attempts;
+use crate::fields::set_queue;
 use crate::parser_state::Ending;
-use crate::parser_state::ParserState;
 use crate::queueable_token::push_end;
 use crate::queueable_token::push_start;
 use crate::queueable_token::set_partner;
@@ -14,16 +21,16 @@ use reading::parser_state::Atomicity;
 use reading::parser_state::Cause;
 use reading::parser_state::Lookahead;
 ghost use mathlib.Core.Path.{_≡_};
-ghost use mathlib.Core.Bool.{Bool, true};
+ghost use mathlib.Core.Bool.{true};
 ghost use mathlib.Core.List.{List};
 ghost use Prim.Native.Nat.{ℕ, _+_, _-_, _*_, _≤_};
-ghost use lib.ListN.{length, take};
+ghost use lib.ListN.{length};
 ghost use Rattle.reading.specs.Ending as Model;
 ghost use Rattle.reading.specs.Ending.{if_then_else_, is-negative, is-none, is-atomic};
 ghost use Rattle.reading.specs.Reading.{Setting};
 ghost use Rattle.reading.specs.Pest as Pest;
+ghost use Rattle.engine.specs.Fields.{state-size, fields};
 ghost use Rattle.engine.specs.Areas.{Outside, view, view-end, positives-at, lengths-at};
-ghost use Rattle.engine.specs.Attempts.{Lent};
 ghost use Rattle.engine.specs.Tokens.{Paired};
 ghost use Rattle.engine.specs.Rule.{starting, dropped, Recording, Tracking};
 
@@ -58,64 +65,71 @@ fn is_none(l: Lookahead) -> bool
 }
 
 // "A rule is recorded if lookahead is None and atomicity isn't Atomic."
-pub(crate) fn produces(s: ParserState) -> bool
-    ensures { λ r. ⌜ ((tokens scratch : List ℕ) → r ≡ Pest.produces (view tokens scratch s)) ⌝ }
+pub(crate) fn produces(s: &[usize]) -> bool
+    requires { ⌜ state-size ≤ length (now s) ⌝ }
+    ensures { λ r. ⌜ ((tokens scratch : List ℕ) → r ≡ Pest.produces (view tokens scratch (fields (now (s .entry))))) ⌝ }
 {
-    let l = s.lookahead;
-    let a = s.atomicity;
+    let l = lookahead(s);
+    let a = atomicity(s);
     if is_none(l) { !is_atomic(a) } else { false }
 }
 
 // The Start of a rule that is recorded.
-pub(crate) fn start_rule(tokens: &mut [u32], capacity: usize, line: u32, s: ParserState) -> Ending
-    requires { ⌜ Recording (now tokens) capacity s ⌝ }
-    ensures { λ r. ⌜ ((g : Setting) (scratch : List ℕ) → g .capacity ≡ capacity → view-end (now (tokens .exit)) scratch r ≡ starting g line (view (now (tokens .entry)) scratch s)) ⌝ }
-    ensures { λ r. ⌜ Outside (s .queue .0 * 5) (s .queue .0 * 5 + 5) (now (tokens .entry)) (now (tokens .exit)) ⌝ }
+pub(crate) fn start_rule(tokens: &mut [u32], s: &mut [usize], room: usize, line: u32) -> Ending
+    requires { ⌜ state-size ≤ length (now s) ⌝ }
+    requires { ⌜ Recording (now tokens) room (fields (now s)) ⌝ }
+    ensures { λ r. ⌜ ((g : Setting) (scratch : List ℕ) → g .capacity ≡ room → view-end (now (tokens .exit)) scratch (fields (now (s .exit))) r ≡ starting g line (view (now (tokens .entry)) scratch (fields (now (s .entry))))) ⌝ }
+    ensures { λ r. ⌜ Outside (fields (now (s .entry)) .queue .0 * 5) (fields (now (s .entry)) .queue .0 * 5 + 5) (now (tokens .entry)) (now (tokens .exit)) ⌝ }
 {
-    let n = s.queue;
-    let p = s.position;
+    let n = queue(s);
+    let p = position(s);
     if produces(s) {
-        if n.0 < capacity {
+        if n.0 < room {
             let after = n.0 + 1;
             let next = TokenIndex(after);
             push_start(tokens, n, p);
-            Ending::Ok(ParserState { queue: next, ..s })
+            set_queue(s, next);
+            Ending::Ok
         } else {
-            Ending::Stop(Cause::TokensFull(line))
+            stop(s, Cause::TokensFull(line))
         }
     } else {
-        Ending::Ok(s)
+        Ending::Ok
     }
 }
 
 // `track`, where it is due by how the body ended, and outside Atomic.
 pub(crate) fn track_rule(
     scratch: &mut [u32],
+    s: &mut [usize],
     due: bool,
     line: u32,
     rule: u32,
     p: BytePosition,
     n: Noted,
-    s: ParserState,
 ) -> Ending
-    requires { ⌜ Tracking (now scratch) s ⌝ }
-    ensures { λ r. ⌜ ((g : Setting) (tokens : List ℕ) → view-end tokens (now (scratch .exit)) r ≡ Pest.tracking g true due line rule (p .0) (n .positives) (n .negatives) (n .total) (view tokens (now (scratch .entry)) s) (λ (t : Pest.ParserState). Model.Ok t)) × Outside positives-at lengths-at (now (scratch .entry)) (now (scratch .exit)) ⌝ }
+    requires { ⌜ state-size ≤ length (now s) ⌝ }
+    requires { ⌜ Tracking (now scratch) (fields (now s)) ⌝ }
+    ensures { λ r. ⌜ ((g : Setting) (tokens : List ℕ) → view-end tokens (now (scratch .exit)) (fields (now (s .exit))) r ≡ Pest.tracking g true due line rule (p .0) (n .positives) (n .negatives) (n .total) (view tokens (now (scratch .entry)) (fields (now (s .entry)))) (λ (t : Pest.ParserState). Model.Ok t)) × Outside positives-at lengths-at (now (scratch .entry)) (now (scratch .exit)) ⌝ }
 {
-    let t = s.attempts;
-    let l = s.lookahead;
-    let a = s.atomicity;
+    let t = attempts(s);
+    let l = lookahead(s);
+    let a = atomicity(s);
     let negative = is_negative(l);
     if due {
         if is_atomic(a) {
-            Ending::Ok(s)
+            Ending::Ok
         } else {
             match track(scratch, t, p, rule, n, negative) {
-                Tracked::Kept(u) => Ending::Ok(ParserState { attempts: u, ..s }),
-                Tracked::Full => Ending::Stop(Cause::AttemptsFull(line)),
+                Tracked::Kept(u) => {
+                    set_attempts(s, u);
+                    Ending::Ok
+                }
+                Tracked::Full => stop(s, Cause::AttemptsFull(line)),
             }
         }
     } else {
-        Ending::Ok(s)
+        Ending::Ok
     }
 }
 
@@ -132,61 +146,59 @@ fn pair_up(tokens: &mut [u32], index: TokenIndex, n: TokenIndex)
 // The End of a rule that is recorded, and the partner of its Start, which is the token at `index`.
 pub(crate) fn close_rule(
     tokens: &mut [u32],
-    capacity: usize,
+    s: &mut [usize],
+    room: usize,
     line: u32,
     rule: u32,
     index: TokenIndex,
-    s: ParserState,
 ) -> Ending
-    requires { ⌜ Recording (now tokens) capacity s × (index .0 ≤ capacity) ⌝ }
-    ensures { λ r. ⌜ ((g : Setting) (scratch : List ℕ) → g .capacity ≡ capacity → view-end (now (tokens .exit)) scratch r ≡ Pest.close-rule g true line rule (index .0) (view (now (tokens .entry)) scratch s)) ⌝ }
-    ensures { λ r. ⌜ Outside 0 (s .queue .0 * 5 + 5) (now (tokens .entry)) (now (tokens .exit)) ⌝ }
+    requires { ⌜ state-size ≤ length (now s) ⌝ }
+    requires { ⌜ Recording (now tokens) room (fields (now s)) × (index .0 ≤ room) ⌝ }
+    ensures { λ r. ⌜ ((g : Setting) (scratch : List ℕ) → g .capacity ≡ room → view-end (now (tokens .exit)) scratch (fields (now (s .exit))) r ≡ Pest.close-rule g true line rule (index .0) (view (now (tokens .entry)) scratch (fields (now (s .entry))))) ⌝ }
+    ensures { λ r. ⌜ Outside 0 (fields (now (s .entry)) .queue .0 * 5 + 5) (now (tokens .entry)) (now (tokens .exit)) ⌝ }
 {
-    let n = s.queue;
-    let p = s.position;
+    let n = queue(s);
+    let p = position(s);
     if produces(s) {
-        if n.0 < capacity {
+        if n.0 < room {
             let after = n.0 + 1;
             let next = TokenIndex(after);
             pair_up(tokens, index, n);
             push_end(tokens, n, index, rule, p);
-            Ending::Ok(ParserState { queue: next, ..s })
+            set_queue(s, next);
+            Ending::Ok
         } else {
-            Ending::Stop(Cause::TokensFull(line))
+            stop(s, Cause::TokensFull(line))
         }
     } else {
-        Ending::Ok(s)
+        Ending::Ok
     }
 }
 
 // The queue cut to before the Start of a rule that failed.
-pub(crate) fn drop_rule(index: TokenIndex, s: ParserState) -> ParserState
-    ensures { λ r. ⌜ ((tokens scratch : List ℕ) → view tokens scratch r ≡ dropped (index .0) (view tokens scratch s)) × (r .queue .0 ≤ s .queue .0) ⌝ }
+pub(crate) fn drop_rule(s: &mut [usize], index: TokenIndex)
+    requires { ⌜ state-size ≤ length (now s) ⌝ }
+    ensures { λ _. ⌜ ((tokens scratch : List ℕ) → view tokens scratch (fields (now (s .exit))) ≡ dropped (index .0) (view tokens scratch (fields (now (s .entry))))) ⌝ }
 {
-    let n = s.queue;
+    let n = queue(s);
     if produces(s) {
         if index.0 < n.0 {
-            ParserState { queue: index, ..s }
-        } else {
-            s
+            set_queue(s, index);
         }
-    } else {
-        s
     }
 }
 
 // "under lookahead None it sets the last sibling's tag, if any"
-pub(crate) fn tag_node(tokens: &mut [u32], tag: u32, s: ParserState) -> Ending
-    requires { ⌜ s .queue .0 * 5 ≤ length (now tokens) ⌝ }
-    ensures { λ r. ⌜ ((scratch : List ℕ) → view-end (now (tokens .exit)) scratch r ≡ Pest.tag-node tag (view (now (tokens .entry)) scratch s)) ⌝ }
-    ensures { λ r. ⌜ Outside ((s .queue .0 - 1) * 5) (s .queue .0 * 5) (now (tokens .entry)) (now (tokens .exit)) ⌝ }
+pub(crate) fn tag_node(tokens: &mut [u32], s: &[usize], tag: u32) -> Ending
+    requires { ⌜ state-size ≤ length (now s) ⌝ }
+    requires { ⌜ fields (now s) .queue .0 * 5 ≤ length (now tokens) ⌝ }
+    ensures { λ r. ⌜ ((scratch : List ℕ) → view-end (now (tokens .exit)) scratch (fields (now (s .entry))) r ≡ Pest.tag-node tag (view (now (tokens .entry)) scratch (fields (now (s .entry))))) ⌝ }
+    ensures { λ r. ⌜ Outside ((fields (now (s .entry)) .queue .0 - 1) * 5) (fields (now (s .entry)) .queue .0 * 5) (now (tokens .entry)) (now (tokens .exit)) ⌝ }
 {
-    let l = s.lookahead;
-    let n = s.queue;
+    let l = lookahead(s);
+    let n = queue(s);
     if is_none(l) {
         tag_last(tokens, n, tag);
-        Ending::Ok(s)
-    } else {
-        Ending::Ok(s)
     }
+    Ending::Ok
 }

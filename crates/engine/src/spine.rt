@@ -2,9 +2,9 @@
 // recursion, which would take native stack for each.
 use crate::node::line_at;
 use crate::parser_state::Ending;
-use crate::parser_state::ParserState;
 ghost use mathlib.Core.Path.{_≡_};
-ghost use Rattle.engine.specs.Spine.{Slopes, Spined, Forks, spine-line, goes, ending-of};
+ghost use mathlib.Core.Bool.{true, false};
+ghost use Rattle.engine.specs.Spine.{Fork, Slopes, Spined, Forks, spine-line, goes, ending-of};
 
 // The leftmost line below a line, and how many steps it is away.
 pub struct Spine {
@@ -51,32 +51,26 @@ pub(crate) fn spine_at(nodes: &[i32], top: usize, i: usize) -> usize
     line
 }
 
-// Whether a fork's right side is evaluated, where its left side ended in Ok or not.
-pub(crate) fn goes_right(kind: usize, good: bool) -> bool
-    ensures { λ r. ⌜ r ≡ goes kind good ⌝ }
+// Kinds 6 and 7.
+pub(crate) fn is_fork(kind: usize) -> bool
+    ensures { λ r. ⌜ (r ≡ true → Fork kind) × (r ≡ false → Fork kind → ⊥) ⌝ }
 {
-    if kind == 6 { good } else { !good }
+    if kind == 6 { true } else { kind == 7 }
 }
 
-// The state goes over field by field: copied whole it would be read in pieces that span what was just written in others, and wait.
-pub(crate) fn ended(good: bool, s: ParserState) -> Ending
-    ensures { λ r. ⌜ r ≡ ending-of good s ⌝ }
+// Whether a fork's right side is evaluated, where its left side ended so.
+pub(crate) fn goes_right(kind: usize, left: Ending) -> bool
+    ensures { λ r. ⌜ r ≡ goes kind left ⌝ }
 {
-    let p = s.position;
-    if good {
-        Ending::Ok(ParserState { position: p, ..s })
-    } else {
-        Ending::Err(ParserState { position: p, ..s })
+    match left {
+        Ending::Ok => kind == 6,
+        Ending::Err => kind != 6,
+        Ending::Stop => false,
     }
 }
 
-// The same ending, its state copied field by field.
-pub(crate) fn rebuilt(r: Ending) -> Ending
-    ensures { λ e. ⌜ e ≡ r ⌝ }
+pub(crate) fn ended(good: bool) -> Ending
+    ensures { λ r. ⌜ r ≡ ending-of good ⌝ }
 {
-    match r {
-        Ending::Ok(t) => ended(true, t),
-        Ending::Err(t) => ended(false, t),
-        Ending::Stop(_) => r,
-    }
+    if good { Ending::Ok } else { Ending::Err }
 }

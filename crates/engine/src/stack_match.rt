@@ -14,7 +14,7 @@ ghost use mathlib.Core.Bool.{true, _||_};
 ghost use mathlib.Core.Option.{none, some};
 ghost use Prim.Native.Nat.{ℕ, _+_, _*_, _≤_, _<_};
 ghost use lib.ListN.{length};
-ghost use lib.Dec.{eqb, ltb};
+ghost use lib.Dec.{eqb, ltb, leb};
 ghost use Rattle.matching.specs.Answers.{matched};
 ghost use Rattle.reading.specs.Ending.{if_then_else_};
 ghost use Rattle.reading.specs.Pest.{ParserState, set-stack, as-str, normalize-index, normalize-end, slice, all-match, stack-match-pop};
@@ -137,19 +137,24 @@ pub enum MatchPopped {
     Full,
 }
 
+// Whether n bytes stand at the position `at` of a text of `size` bytes.
+fn has_room(size: usize, at: usize, n: usize) -> bool
+    ensures { λ r. ⌜ r ≡ leb (at + n) size ⌝ }
+{
+    if size < at {
+        return false;
+    }
+    n <= size - at
+}
+
 // "keeps popping entries until one fails to match; failing, .. popped entries are gone"
-pub(crate) fn match_pop(
-    text: &[u8],
-    scratch: &mut [u32],
-    s: Stack,
-    pos: BytePosition,
-) -> MatchPopped
+pub(crate) fn match_pop(text: &[u8], scratch: &mut [u32], s: Stack, p: BytePosition) -> MatchPopped
     requires { ⌜ StackReady (now scratch) s ⌝ }
-    ensures { λ r. ⌜ ((line : ℕ) → (m : ParserState) → match-end (now (scratch .exit)) line m r ≡ stack-match-pop (now (text .entry)) true line (stack-of (now (scratch .entry)) s .cache) (pos .0) (set-stack (stack-of (now (scratch .entry)) s) m)) ⌝ }
+    ensures { λ r. ⌜ ((line : ℕ) → (m : ParserState) → match-end (now (scratch .exit)) line m r ≡ stack-match-pop (now (text .entry)) true line (stack-of (now (scratch .entry)) s .cache) (p .0) (set-stack (stack-of (now (scratch .entry)) s) m)) ⌝ }
     ensures { λ r. ⌜ OutsideStack (now (scratch .entry)) (now (scratch .exit)) ⌝ }
 {
     let mut t = s;
-    let mut at = pos.0;
+    let mut at = p.0;
     let matched = 'entries: loop {
         let h = t.height;
         if h == 0 {
@@ -161,10 +166,7 @@ pub(crate) fn match_pop(
         t = u;
         let bytes = as_bytes(text, x);
         let n = bytes.len();
-        if text.len() < at {
-            break false;
-        }
-        if text.len() - at < n {
+        if !has_room(text.len(), at, n) {
             break false;
         }
         let mut i = 0;

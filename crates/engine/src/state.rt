@@ -3,9 +3,16 @@ use crate::attempts::Attempts;
 use crate::call_limit_tracker::CallLimitTracker;
 use crate::call_limit_tracker::LimitReached;
 use crate::conclude::conclude;
+use crate::fields::STATE_SIZE;
+use crate::fields::set_atomicity;
+use crate::fields::set_attempts;
+use crate::fields::set_lookahead;
+use crate::fields::set_position;
+use crate::fields::set_queue;
+use crate::fields::set_stack;
+use crate::fields::set_tracker;
 use crate::grammar::Refused;
 use crate::grammar::refusal;
-use crate::parser_state::ParserState;
 use crate::parser_state::node;
 use crate::stack::Stack;
 use matching::position::BytePosition;
@@ -15,9 +22,10 @@ use reading::parser_state::Lookahead;
 ghost use mathlib.Core.Path.{_≡_};
 ghost use mathlib.Core.List.{List};
 ghost use mathlib.Core.Option.{none};
-ghost use Prim.Native.Nat.{ℕ};
+ghost use Prim.Native.Nat.{ℕ, _≤_};
 ghost use lib.ListN.{length};
 ghost use Rattle.reading.specs.Pest as Pest;
+ghost use Rattle.engine.specs.Fields.{state-size, fields};
 ghost use Rattle.engine.specs.Areas.{view};
 ghost use Rattle.reading.specs.Outcome.{refusal, capacity};
 ghost use Rattle.engine.specs.Conclude.{outcome-of};
@@ -31,30 +39,39 @@ pub struct Outcome {
 }
 
 // The state at the start of a run (pest's `ParserState::new`). A call limit of 0 is none.
-fn new(call_limit: u32) -> ParserState
-    ensures { λ s. ⌜ ((tokens scratch : List ℕ) → view tokens scratch s ≡ Pest.new «call_limit») ⌝ }
+fn new(s: &mut [usize], call_limit: u32)
+    requires { ⌜ state-size ≤ length (now s) ⌝ }
+    ensures { λ _. ⌜ ((tokens scratch : List ℕ) → view tokens scratch (fields (now (s .exit))) ≡ Pest.new «call_limit») ⌝ }
 {
-    ParserState {
-        position: BytePosition(0),
-        queue: TokenIndex(0),
-        attempts: Attempts {
+    let limit = call_limit as usize;
+    set_position(s, BytePosition(0));
+    set_queue(s, TokenIndex(0));
+    set_attempts(
+        s,
+        Attempts {
             furthest: BytePosition(0),
             positives: 0,
             negatives: 0,
         },
-        stack: Stack {
+    );
+    set_stack(
+        s,
+        Stack {
             height: 0,
             popped: 0,
             checkpoints: 0,
         },
-        tracker: CallLimitTracker {
+    );
+    set_tracker(
+        s,
+        CallLimitTracker {
             current: 0,
-            limit: call_limit,
+            limit: limit,
             reached: LimitReached::No,
         },
-        lookahead: Lookahead::None,
-        atomicity: Atomicity::NonAtomic,
-    }
+    );
+    set_lookahead(s, Lookahead::None);
+    set_atomicity(s, Atomicity::NonAtomic);
 }
 
 // "Capacity is a fifth of the area, rounded down, at most 65,535."
@@ -79,22 +96,23 @@ fn started<'a>(
     requires { ⌜ refusal (input (now nodes) (now literals) (now text) «depth_limit» «call_limit» (now tokens) (now report) (length (now scratch))) ≡ none ⌝ }
     ensures { λ r. ⌜ Ran (input (now (nodes .entry)) (now (literals .entry)) (now (text .entry)) «depth_limit» «call_limit» (now (tokens .entry)) (now (report .entry)) (length (now (scratch .entry)))) (outcome-of r (now (tokens .exit)) (now (report .exit))) ⌝ }
 {
-    let capacity = capacity_of(tokens);
+    let room = capacity_of(tokens);
     let root = nodes.len() / 4;
     let depth = depth_limit as usize;
-    let s = new(call_limit);
+    let mut state = [0; STATE_SIZE];
+    new(&mut state, call_limit);
     let r = node(
         nodes,
         literals,
         text,
         tokens,
         scratch,
-        capacity,
+        &mut state,
+        room,
         depth,
         root,
-        s,
     );
-    conclude(tokens, scratch, report, r)
+    conclude(tokens, scratch, report, &state, r)
 }
 
 // Document 01's run. A refused one leaves all areas.

@@ -1,26 +1,18 @@
--- In each arm the ending is known.
+-- Whatever the ending, its state has the atomicity before.
+use Rattle.engine.specs.Fields.{fields}
+use Rattle.engine.proofs.EndLaws.{atomic-set}
 use borrow.Author.Needs.{needs}
 use Rattle.engine.proofs.endings.atomic_end.Statement.{statement}
 use Rattle.engine.proofs.endings.atomic_end.Tie as tie
 
-enum-known-r : tie.Need-enum-known-r
-enum-known-r c = search needs
+set-atomicity-requires : tie.Need-set-atomicity-requires
+set-atomicity-requires c κs = search needs
 
-enum-known-r-2 : tie.Need-enum-known-r-2
-enum-known-r-2 c = search needs
-
-enum-known-r-3 : tie.Need-enum-known-r-3
-enum-known-r-3 c = search needs
+same-length : tie.Need-same-length
+same-length c = search needs
 
 returns : tie.Need-returns
-returns c = λ tokens scratch. rw (c .before .before .before .before .before .before .r .given .1)
-
-returns-2 : tie.Need-returns-2
-returns-2 c = λ tokens scratch. rw (c .before .before .before .before .before .before .r2 .given .1)
-
-returns-3 : tie.Need-returns-3
-returns-3 c = λ tokens scratch. rw (c .before .r3 .given .1)
+returns c = λ tokens scratch. atomic-set tokens scratch (fields (c .before .before .before .before .before .args .s .now)) _ (c .before .before .before .before .before .args .atomicity) (c .before .before .before .before .before .args .r) (c .before .before .set-atomicity .ensures)
 
 pub atomic-end-spec : {M : Type 1} → statement M
-atomic-end-spec =
-    tie.close (tie.spec enum-known-r enum-known-r-2 enum-known-r-3 returns returns-2 returns-3)
+atomic-end-spec = tie.close (tie.spec set-atomicity-requires same-length returns)

@@ -1,12 +1,16 @@
 -- Tracking ends Ok, and the state that it left loses the rule's tokens; or it does not, and that is the end.
-use mathlib.Core.Path.{refl, ap}
+use mathlib.Core.Path.{refl, ap, _∙_}
 use mathlib.Core.Bool.{not}
-use Rattle.reading.specs.Ending.{Err}
+use Rattle.reading.specs.Ending.{Err, is-negative}
+use Rattle.engine.specs.Fields.{ParserState, fields}
 use Rattle.engine.specs.Areas.{view}
 use Rattle.engine.proofs.RuleEnds.{after-err}
 use borrow.Author.Needs.{needs}
 use Rattle.engine.proofs.endings.rule_err.Statement.{statement}
 use Rattle.engine.proofs.endings.rule_err.Tie as tie
+
+lookahead-requires : tie.Need-lookahead-requires
+lookahead-requires c κs = search needs
 
 is-negative-requires : tie.Need-is-negative-requires
 is-negative-requires c κs = search needs
@@ -14,49 +18,74 @@ is-negative-requires c κs = search needs
 track-rule-requires : tie.Need-track-rule-requires
 track-rule-requires c κs = search needs
 
-enum-known-t : tie.Need-enum-known-t
-enum-known-t c = search needs
+enum-told : tie.Need-enum-told
+enum-told c = search needs
 
 drop-rule-requires : tie.Need-drop-rule-requires
 drop-rule-requires c κs = search needs
 
-enum-known-t-2 : tie.Need-enum-known-t-2
-enum-known-t-2 c = search needs
+enum-told-2 : tie.Need-enum-told-2
+enum-told-2 c = search needs
 
-enum-known-c : tie.Need-enum-known-c
-enum-known-c c = search needs
+enum-told-3 : tie.Need-enum-told-3
+enum-told-3 c = search needs
 
 same-length : tie.Need-same-length
 same-length c = search needs
 
-returns : tie.Need-returns
-returns c = let i = c .before .before .before .before .before .before .before .before .before .before in let k = c .before .before .before .before .before .before .track-rule in let b = c .before .before .before .before .before .before .before .before .is-negative in let t = c .before .before .t .given in λ g tokens. after-err g (not (b .result)) (i .args .line) (i .args .rule) (i .args .position .0) (i .args .n) (view tokens (i .args .scratch .now) (i .args .s)) tokens (k .last .0) (k .result) _ (t .1) (k .ensures .0 g tokens) (i .args .index .0) _ (ap not (b .ensures)) (ap Err (c .drop-rule .ensures .0 tokens (k .last .0)))
-
 same-length-2 : tie.Need-same-length-2
 same-length-2 c = search needs
 
-returns-2 : tie.Need-returns-2
-returns-2 c = let i = c .before .before .before .before .before .before .before .before .before in let k = c .before .before .before .before .before .track-rule in let b = c .before .before .before .before .before .before .before .is-negative in let t = c .before .t2 .given in λ g tokens. after-err g (not (b .result)) (i .args .line) (i .args .rule) (i .args .position .0) (i .args .n) (view tokens (i .args .scratch .now) (i .args .s)) tokens (k .last .0) (k .result) _ (t .1) (k .ensures .0 g tokens) (i .args .index .0) _ (ap not (b .ensures)) refl
+returns : tie.Need-returns
+returns c =
+    let i = c .before .before .before .before .before .before .before .before .before .before .before .before .before .before .before .before .before .before in
+    let k = c .before .before .before .before .before .before .before .before .before .before .track-rule in
+    let s : ParserState = fields (i .args .s .now) in
+    λ g tokens. after-err g (not (c .before .before .before .before .before .before .before .before .before .before .before .before .before .is-negative .result)) (i .args .line) (i .args .rule) (i .args .position .0) (i .args .n) (view tokens (i .args .scratch .now) s) tokens (k .last .0) (fields (k .last .1 .0)) (k .result) _ (c .before .before .before .before .enum-told .given .1) (k .ensures .0 g tokens) (i .args .index .0) _ (ap not (c .before .before .before .before .before .before .before .before .before .before .before .before .before .is-negative .ensures ∙ ap is-negative (c .before .before .before .before .before .before .before .before .before .before .before .before .before .before .lookahead .ensures))) (ap Err (c .before .before .drop-rule .ensures tokens (k .last .0)))
 
 same-length-3 : tie.Need-same-length-3
 same-length-3 c = search needs
 
+same-length-4 : tie.Need-same-length-4
+same-length-4 c = search needs
+
+returns-2 : tie.Need-returns-2
+returns-2 c =
+    let i = c .before .before .before .before .before .before .before .before .before .before .before .before .before .before in
+    let k = c .before .before .before .before .before .before .track-rule in
+    let s : ParserState = fields (i .args .s .now) in
+    λ g tokens. after-err g (not (c .before .before .before .before .before .before .before .before .before .is-negative .result)) (i .args .line) (i .args .rule) (i .args .position .0) (i .args .n) (view tokens (i .args .scratch .now) s) tokens (k .last .0) (fields (k .last .1 .0)) (k .result) _ (c .enum-told2 .given .1) (k .ensures .0 g tokens) (i .args .index .0) _ (ap not (c .before .before .before .before .before .before .before .before .before .is-negative .ensures ∙ ap is-negative (c .before .before .before .before .before .before .before .before .before .before .lookahead .ensures))) refl
+
+same-length-5 : tie.Need-same-length-5
+same-length-5 c = search needs
+
+same-length-6 : tie.Need-same-length-6
+same-length-6 c = search needs
+
 returns-3 : tie.Need-returns-3
-returns-3 c = let i = c .before .before .before .before .before .before .before .before .before in let k = c .before .before .before .before .before .track-rule in let b = c .before .before .before .before .before .before .before .is-negative in let t = c .before .c .given in λ g tokens. after-err g (not (b .result)) (i .args .line) (i .args .rule) (i .args .position .0) (i .args .n) (view tokens (i .args .scratch .now) (i .args .s)) tokens (k .last .0) (k .result) _ (t .1) (k .ensures .0 g tokens) (i .args .index .0) _ (ap not (b .ensures)) refl
+returns-3 c =
+    let i = c .before .before .before .before .before .before .before .before .before .before .before .before .before .before in
+    let k = c .before .before .before .before .before .before .track-rule in
+    let s : ParserState = fields (i .args .s .now) in
+    λ g tokens. after-err g (not (c .before .before .before .before .before .before .before .before .before .is-negative .result)) (i .args .line) (i .args .rule) (i .args .position .0) (i .args .n) (view tokens (i .args .scratch .now) s) tokens (k .last .0) (fields (k .last .1 .0)) (k .result) _ (c .enum-told3 .given .1) (k .ensures .0 g tokens) (i .args .index .0) _ (ap not (c .before .before .before .before .before .before .before .before .before .is-negative .ensures ∙ ap is-negative (c .before .before .before .before .before .before .before .before .before .before .lookahead .ensures))) refl
 
 pub rule-err-spec : {M : Type 1} → statement M
 rule-err-spec =
     tie.close
     (tie.spec
+    lookahead-requires
     is-negative-requires
     track-rule-requires
-    enum-known-t
+    enum-told
     drop-rule-requires
-    enum-known-t-2
-    enum-known-c
+    enum-told-2
+    enum-told-3
     same-length
-    returns
     same-length-2
-    returns-2
+    returns
     same-length-3
+    same-length-4
+    returns-2
+    same-length-5
+    same-length-6
     returns-3)

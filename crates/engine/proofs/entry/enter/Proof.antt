@@ -1,12 +1,15 @@
 -- The tracker's answer decides, and the state goes on with its tracker.
-use mathlib.Core.Path.{ap, sym, _∙_}
+use mathlib.Core.Path.{ap}
+use mathlib.Core.Bool.{true, false}
 use lib.Dec.{ltb}
-use Rattle.engine.specs.Areas.{tracker-of, view}
 use Rattle.engine.specs.Entry.{entered-of}
-use Rattle.engine.proofs.TrackerLaws.{enter-open, enter-refused}
+use Rattle.engine.proofs.TrackerLaws.{entry-is}
 use borrow.Author.Needs.{needs}
 use Rattle.engine.proofs.entry.enter.Statement.{statement}
 use Rattle.engine.proofs.entry.enter.Tie as tie
+
+tracker-requires : tie.Need-tracker-requires
+tracker-requires c κs = search needs
 
 entered-requires : tie.Need-entered-requires
 entered-requires c κs = search needs
@@ -14,14 +17,38 @@ entered-requires c κs = search needs
 enum-known-u : tie.Need-enum-known-u
 enum-known-u c = search needs
 
+set-tracker-requires : tie.Need-set-tracker-requires
+set-tracker-requires c κs = search needs
+
 enum-known-u-2 : tie.Need-enum-known-u-2
 enum-known-u-2 c = search needs
 
+set-tracker-requires-2 : tie.Need-set-tracker-requires-2
+set-tracker-requires-2 c κs = search needs
+
+same-length : tie.Need-same-length
+same-length c = search needs
+
 returns : tie.Need-returns
-returns c = λ tokens scratch. enter-open (ltb 0 (c .before .before .before .before .before .before .before .before .before .args .depth)) (c .before .before .before .before .before .before .before .before .before .args .counted) (view tokens scratch (c .before .before .before .before .before .before .before .before .before .args .s)) (tracker-of (c .before .before .before .before .before .u .given .0 .0)) (ap entered-of (sym (c .before .before .before .before .before .u .given .1)) ∙ c .before .before .before .before .before .before .before .entered .ensures)
+returns c = entry-is true (ltb 0 (c .before .before .before .before .before .before .before .before .before .before .before .args .depth)) (c .before .before .before .before .before .before .before .before .before .before .before .args .counted) _ _ _ _ (c .before .before .before .before .before .before .before .entered .result) (c .before .before .before .before .before .before .before .before .tracker .ensures) (c .before .before .before .before .before .before .before .entered .ensures) (ap entered-of (c .before .before .before .before .before .u .given .1)) (c .before .before .set-tracker .ensures)
+
+same-length-2 : tie.Need-same-length-2
+same-length-2 c = search needs
 
 returns-2 : tie.Need-returns-2
-returns-2 c = λ tokens scratch. enter-refused (ltb 0 (c .before .before .before .before .before .before .before .before .before .args .depth)) (c .before .before .before .before .before .before .before .before .before .args .counted) (view tokens scratch (c .before .before .before .before .before .before .before .before .before .args .s)) (tracker-of (c .before .before .before .before .before .u2 .given .0 .0)) (ap entered-of (sym (c .before .before .before .before .before .u2 .given .1)) ∙ c .before .before .before .before .before .before .before .entered .ensures)
+returns-2 c = entry-is false (ltb 0 (c .before .before .before .before .before .before .before .before .before .before .before .args .depth)) (c .before .before .before .before .before .before .before .before .before .before .before .args .counted) _ _ _ _ (c .before .before .before .before .before .before .before .entered .result) (c .before .before .before .before .before .before .before .before .tracker .ensures) (c .before .before .before .before .before .before .before .entered .ensures) (ap entered-of (c .before .before .before .before .before .u2 .given .1)) (c .before .before .set-tracker2 .ensures)
 
 pub enter-spec : {M : Type 1} → statement M
-enter-spec = tie.close (tie.spec entered-requires enum-known-u enum-known-u-2 returns returns-2)
+enter-spec =
+    tie.close
+    (tie.spec
+    tracker-requires
+    entered-requires
+    enum-known-u
+    set-tracker-requires
+    enum-known-u-2
+    set-tracker-requires-2
+    same-length
+    returns
+    same-length-2
+    returns-2)

@@ -1,6 +1,5 @@
 -- The first i tokens are settled, and the queue is as it was.
-use mathlib.Core.List.{List}
-use Prim.Native.Nat.{ℕ, _-_, _≤_}
+use Prim.Native.Nat.{_-_, _≤_}
 use Rattle.engine.specs.Tokens.{SettledTo}
 use Rattle.engine.proofs.TokenLaws.{settled-none, settled-more, settled-all}
 use borrow.Author.Needs.{needs}

@@ -1,5 +1,4 @@
 -- The numbers in [from, i) are zero, and those before `from` are as they were.
-use mathlib.Core.Path.{_≡_, refl}
 use Prim.Native.Nat.{_≤_, _-_}
 use lib.ListN.{length}
 use Rattle.engine.proofs.AreaLaws.{Zeroed, zeroed-start, zeroed-more, zeroed-all}

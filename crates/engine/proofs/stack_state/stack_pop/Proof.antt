@@ -1,14 +1,24 @@
 -- One law of StateSteps for each answer of `pop`.
+use native.Mathlib.Omega.{arith}
+use Rattle.engine.proofs.StateSteps.{stack-read, pop-moved, pop-stopped, pop-indebted, stopping}
 use borrow.Author.Needs.{needs}
-use Rattle.engine.proofs.stack_state.stack_pop.Tie as tie
-use Rattle.engine.proofs.StateSteps.{pop-moved, pop-stopped, pop-indebted}
 use Rattle.engine.proofs.stack_state.stack_pop.Statement.{statement}
+use Rattle.engine.proofs.stack_state.stack_pop.Tie as tie
+
+stack-requires : tie.Need-stack-requires
+stack-requires c κs = search needs
+
+position-requires : tie.Need-position-requires
+position-requires c κs = search needs
 
 pop-requires : tie.Need-pop-requires
-pop-requires c κs = search needs
+pop-requires c κs = stack-read (c .before .before .before .stack .ensures) (c .before .before .before .before .before .before .before .before .pre .1)
 
 enum-known-w : tie.Need-enum-known-w
 enum-known-w c = search needs
+
+set-stack-requires : tie.Need-set-stack-requires
+set-stack-requires c κs = search needs
 
 as-bytes-requires : tie.Need-as-bytes-requires
 as-bytes-requires c κs = search needs
@@ -17,46 +27,69 @@ match-string-requires : tie.Need-match-string-requires
 match-string-requires c κs = search needs
 
 moved-requires : tie.Need-moved-requires
-moved-requires c κs = search needs
+moved-requires c κs = omega (arith, c .before .before .before .before .before .set-stack .kept .0, c .before .before .before .before .before .before .before .before .before .before .before .before .before .before .before .before .before .before .before .before .before .pre .0)
 
 enum-told : tie.Need-enum-told
 enum-told c = search needs
 
+stop-requires : tie.Need-stop-requires
+stop-requires c κs = search needs
+
 enum-told-2 : tie.Need-enum-told-2
 enum-told-2 c = search needs
+
+stop-requires-2 : tie.Need-stop-requires-2
+stop-requires-2 c κs = search needs
 
 same-length : tie.Need-same-length
 same-length c = search needs
 
-returns : tie.Need-returns
-returns c = let i = c .before .before .before .before .before .before .before .before .before .before .before .before .before .before .before .before .before .before in pop-moved (i .args .text .now) (i .args .line) (i .pre) (c .before .before .before .before .before .before .before .before .before .before .before .before .pop .result) (c .before .before .before .before .before .before .before .before .before .before .before .before .pop .ensures) _ _ (c .before .before .before .before .before .before .before .before .w .given .1) _ (c .before .before .before .before .before .before .as-bytes .ensures) _ (c .before .before .before .before .before .match-string .ensures) (c .moved .result) (c .moved .ensures)
-
 same-length-2 : tie.Need-same-length-2
 same-length-2 c = search needs
 
-returns-2 : tie.Need-returns-2
-returns-2 c = let i = c .before .before .before .before .before .before .before .before .before .before in pop-stopped (i .args .text .now) (i .args .line) (i .pre) (c .before .before .before .before .pop .result) (c .before .before .before .before .pop .ensures) (c .enum-told .given .1)
+returns : tie.Need-returns
+returns c = pop-moved (c .before .before .before .before .before .before .before .before .before .before .before .before .before .before .before .before .before .before .before .before .before .before .before .before .args .text .now) (c .before .before .before .before .before .before .before .before .before .before .before .before .before .before .before .before .before .before .before .before .before .before .before .before .args .line) (c .before .before .before .before .before .before .before .before .before .before .before .before .before .before .before .before .before .before .before .before .before .before .before .before .pre .1) (c .before .before .before .before .before .before .before .before .before .before .before .before .before .before .before .before .before .before .before .stack .ensures) (c .before .before .before .before .before .before .before .before .before .before .before .before .before .before .before .pop .result) (c .before .before .before .before .before .before .before .before .before .before .before .before .before .before .before .pop .ensures) _ _ (c .before .before .before .before .before .before .before .before .before .before .before .w .given .1) (c .before .before .before .before .before .before .before .before .set-stack .ensures) _ (c .before .before .before .before .as-bytes .ensures) (c .before .before .before .before .before .before .before .before .before .before .before .before .before .before .before .before .before .position .ensures) _ (c .before .before .before .match-string .ensures) _ (c .before .before .moved .result) (c .before .before .moved .ensures)
 
 same-length-3 : tie.Need-same-length-3
 same-length-3 c = search needs
 
+same-length-4 : tie.Need-same-length-4
+same-length-4 c = search needs
+
+returns-2 : tie.Need-returns-2
+returns-2 c = stopping _ _ (c .before .before .stop .result) (c .before .before .stop .ensures) (pop-stopped (c .before .before .before .before .before .before .before .before .before .before .before .before .before .before .before .before .before .args .text .now) (c .before .before .before .before .before .before .before .before .before .before .before .before .before .before .before .before .before .args .line) (c .before .before .before .before .before .before .before .before .before .before .before .before .before .before .before .before .before .pre .1) (c .before .before .before .before .before .before .before .before .before .before .before .before .stack .ensures) (c .before .before .before .before .before .before .before .before .pop .result) (c .before .before .before .before .before .before .before .before .pop .ensures) (c .before .before .before .before .enum-told .given .1))
+
+same-length-5 : tie.Need-same-length-5
+same-length-5 c = search needs
+
+same-length-6 : tie.Need-same-length-6
+same-length-6 c = search needs
+
 returns-3 : tie.Need-returns-3
-returns-3 c = let i = c .before .before .before .before .before .before .before .before .before .before in pop-indebted (i .args .text .now) (i .args .line) (i .pre) (c .before .before .before .before .pop .result) (c .before .before .before .before .pop .ensures) (c .enum-told2 .given .1)
+returns-3 c = stopping _ _ (c .before .before .stop2 .result) (c .before .before .stop2 .ensures) (pop-indebted (c .before .before .before .before .before .before .before .before .before .before .before .before .before .before .before .before .before .args .text .now) (c .before .before .before .before .before .before .before .before .before .before .before .before .before .before .before .before .before .args .line) (c .before .before .before .before .before .before .before .before .before .before .before .before .before .before .before .before .before .pre .1) (c .before .before .before .before .before .before .before .before .before .before .before .before .stack .ensures) (c .before .before .before .before .before .before .before .before .pop .result) (c .before .before .before .before .before .before .before .before .pop .ensures) (c .before .before .before .before .enum-told2 .given .1))
 
 pub stack-pop-spec : {M : Type 1} → statement M
 stack-pop-spec =
     tie.close
     (tie.spec
+    stack-requires
+    position-requires
     pop-requires
     enum-known-w
+    set-stack-requires
     as-bytes-requires
     match-string-requires
     moved-requires
     enum-told
+    stop-requires
     enum-told-2
+    stop-requires-2
     same-length
-    returns
     same-length-2
-    returns-2
+    returns
     same-length-3
+    same-length-4
+    returns-2
+    same-length-5
+    same-length-6
     returns-3)

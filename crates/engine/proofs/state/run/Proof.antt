@@ -1,8 +1,7 @@
 -- A refused run, or a started one.
-use mathlib.Core.Path.{_≡_, refl, sym, _∙_}
+use mathlib.Core.Path.{refl, sym, _∙_}
 use lib.ListN.{length}
 use Rattle.reading.specs.Outcome.{Input}
-use Rattle.engine.specs.Refusals.{Handed}
 use Rattle.reading.specs.Run.{input}
 use Rattle.engine.proofs.RefusalLaws.{not-refused}
 use Rattle.engine.proofs.RunLaws.{refused-is}
