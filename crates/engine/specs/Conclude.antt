@@ -4,6 +4,8 @@ use Prim.Native.Nat.{ℕ, _*_, _≤_}
 use lib.ListN.{length}
 use Rattle.engine.specs.declared.parser_state.Ending as Declared
 use Rattle.engine.specs.declared.parser_state.Ending.the-variants as Code
+use Rattle.engine.specs.declared.conclude.Ended.{Ended}
+use Rattle.engine.specs.declared.conclude.Ended.the-variants as Final
 use Rattle.engine.specs.declared.state.Outcome as Returned
 use Rattle.reading.specs.Outcome.{Outcome}
 use Rattle.engine.specs.Fields as State
@@ -12,6 +14,12 @@ use Rattle.engine.specs.Report.{Reportable}
 -- What a function returns, with the areas as they then stand.
 abbrev pub outcome-of : Returned.Outcome → (tokens report : List ℕ) → Outcome
 outcome-of o tokens report = record { number = o .number; place = o .place; count = o .count; tokens = tokens; report = report }
+
+-- A run's ending: a stop holds its cause.
+abbrev pub ended-of : State.ParserState → Declared.Ending → Ended
+ended-of s Code.Ok = Final.Ok
+ended-of s Code.Err = Final.Err
+ended-of s Code.Stop = Final.Stop (s .cause)
 
 -- The queue lies in its area, and the attempts can be reported.
 pub record Concluding (tokens scratch report : List ℕ) (s : State.ParserState) : Type 0 where
