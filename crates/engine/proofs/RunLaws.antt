@@ -11,8 +11,8 @@ use borrow.Author.Tests.{lt-ltb}
 use Rattle.reading.specs.declared.parser_state.Lookahead.the-variants.{None}
 use Rattle.reading.specs.declared.parser_state.Atomicity.the-variants.{NonAtomic}
 use Rattle.reading.specs.declared.parser_state.Cause.the-variants.{EmptyStack}
-use Rattle.engine.specs.declared.call_limit_tracker.LimitReached.the-variants.{No}
-use Rattle.engine.specs.declared.grammar.Refused.the-variants.{By}
+use Rattle.checks.specs.declared.call_limit_tracker.LimitReached.the-variants.{No}
+use Rattle.checks.specs.declared.grammar.Refused.the-variants.{By}
 use Rattle.engine.specs.Fields as State
 use Rattle.engine.specs.declared.parser_state.Ending as Declared
 use Rattle.engine.specs.declared.parser_state.Ending.the-variants as Code
@@ -20,9 +20,10 @@ use Rattle.reading.specs.Ending.{Ending, Ok, Err, Stop}
 use Rattle.reading.specs.Grammar.{line-count, tree-at, root}
 use Rattle.reading.specs.Pest as Pest
 use Rattle.reading.specs.Pest.{ParserState, CallLimit}
-use Rattle.engine.specs.Areas.{numbers, pairs, queue-of, positives-at, negatives-at, limit-of, view, view-end}
+use Rattle.engine.specs.Areas.{numbers, pairs, queue-of, positives-at, negatives-at, view, view-end}
+use Rattle.checks.specs.Tracker.{limit-of}
 use Rattle.reading.specs.Fit.{Fit}
-use Rattle.engine.specs.Refusals.{refused-of}
+use Rattle.checks.specs.Refusals.{refused-of}
 use Rattle.reading.specs.Outcome.{Input, Refusal, refusal, refused, capacity, setting, reading, answer, Answer, Outcome, laid, started, outcome}
 use Rattle.reading.specs.Answer.{pest-answer}
 use Rattle.engine.specs.Conclude.{Concluding, ConcludeReady}

@@ -13,8 +13,8 @@ use Rattle.matching.specs.declared.position.TokenIndex.{TokenIndex}
 use Rattle.reading.specs.declared.parser_state.Lookahead.{Lookahead}
 use Rattle.reading.specs.declared.parser_state.Atomicity.{Atomicity}
 use Rattle.reading.specs.declared.parser_state.Cause.{Cause}
-use Rattle.engine.specs.declared.call_limit_tracker.LimitReached.{LimitReached}
-use Rattle.engine.specs.declared.call_limit_tracker.CallLimitTracker.{CallLimitTracker}
+use Rattle.checks.specs.declared.call_limit_tracker.LimitReached.{LimitReached}
+use Rattle.checks.specs.declared.call_limit_tracker.CallLimitTracker.{CallLimitTracker}
 use Rattle.engine.specs.declared.attempts.Attempts.{Attempts}
 use Rattle.engine.specs.declared.stack.Stack.{Stack}
 use Rattle.reading.specs.Ending.{if_then_else_}

@@ -18,14 +18,14 @@ use Rattle.matching.specs.declared.position.BytePosition.{BytePosition}
 use Rattle.matching.specs.declared.position.Matched.{Matched}
 use Rattle.engine.specs.declared.stack.Pushed.the-variants as Pushed
 use Rattle.engine.specs.declared.stack.Popped.the-variants as Popped
-use Rattle.engine.specs.declared.stack_match.Index.the-variants as Index
+use Rattle.checks.specs.declared.node.Index.the-variants as Index
 use Rattle.engine.specs.declared.stack_match.MatchPopped.the-variants as MatchPopped
 use Rattle.engine.specs.declared.parser_state.Ending as Code·ending
 use Rattle.reading.specs.Pest as Pest
 use Rattle.engine.specs.declared.stack.Stack.{Stack}
 use Rattle.engine.specs.declared.stack.Pushed.{Pushed}
 use Rattle.engine.specs.declared.stack.Popped.{Popped}
-use Rattle.engine.specs.declared.stack_match.Index.{Index}
+use Rattle.checks.specs.declared.node.Index.{Index}
 use Rattle.engine.specs.declared.stack_match.MatchPopped.{MatchPopped}
 use Rattle.engine.specs.Fields as Fields
 use Rattle.engine.specs.Fields.{ParserState}
@@ -38,7 +38,8 @@ use Rattle.engine.specs.Areas.{span, stack-of, view, view-end}
 use Rattle.engine.specs.Bounded.{Push, kept, Take, got, pushed, taken, taken-from, push-of, take-of}
 use Rattle.reading.specs.Sound.{Sound}
 use Rattle.engine.specs.StackReady.{StackReady, StateReady, OutsideStack}
-use Rattle.engine.specs.StackMatch.{match-of, index-of, match-end}
+use Rattle.engine.specs.StackMatch.{match-of, match-end}
+use Rattle.checks.specs.PeekIndex.{index-of}
 use Rattle.engine.proofs.Regions.{pairs-length, numbers-length}
 use Rattle.engine.proofs.ReadyLaws.{positives-kept, negatives-kept, ready-of}
 use Rattle.engine.proofs.Matching.{match-string-same}

@@ -39,7 +39,7 @@ use Rattle.engine.specs.Evaluation.{setting-of, Ready, Line, evaluated}
 use Rattle.reading.proofs.Trees.{still}
 use Rattle.engine.proofs.Regions.{pairs-length}
 use Rattle.engine.proofs.TokenLaws.{queue-length}
-use Rattle.engine.proofs.TrackerLaws.{check-limit-is}
+use Rattle.engine.proofs.EntryLaws.{check-limit-is}
 use Rattle.engine.proofs.StateSteps.{state-ready}
 use Rattle.reading.proofs.Invariant.{Tested, After, Keeps, keeps-ok, keeps-err, keeps-stop, KeepsFrom, eval-keeps, checkpoint-fit, pushed-fit, toggled, toggled-back}
 use Rattle.engine.proofs.RuleLaws.{rule-is}

@@ -2,14 +2,9 @@
 use mathlib.Core.Path.{_≡_}
 use mathlib.Core.Bool.{Bool, true, false}
 use mathlib.Core.List.{List, [], _∷_, _++_}
-use mathlib.Core.Option.{Option, none, some}
 use Prim.Native.Nat.{ℕ, zero, suc, _+_, _*_, _≤_, _<_}
 use lib.ListN.{length, getD}
 use lib.Dec.{eqb}
-use Rattle.reading.specs.declared.call_limit_tracker.LimitKind.{LimitKind}
-use Rattle.engine.specs.declared.call_limit_tracker.LimitReached.{LimitReached}
-use Rattle.engine.specs.declared.call_limit_tracker.LimitReached.the-variants.{No, By}
-use Rattle.engine.specs.declared.call_limit_tracker.CallLimitTracker.{CallLimitTracker}
 use Rattle.engine.specs.declared.stack.Stack.{Stack}
 use Rattle.engine.specs.declared.parser_state.Ending.{Ending}
 use Rattle.engine.specs.declared.parser_state.Ending.the-variants as Code
@@ -17,7 +12,8 @@ use Rattle.engine.specs.Fields.{ParserState}
 use Rattle.reading.specs.Ending as Model
 use Rattle.reading.specs.Ending.{if_then_else_, Span, Checkpoint}
 use Rattle.reading.specs.Pest as Pest
-use Rattle.reading.specs.Pest.{QueueableToken, Start, End, CallLimit}
+use Rattle.reading.specs.Pest.{QueueableToken, Start, End}
+use Rattle.checks.specs.Tracker.{tracker-of}
 
 -- ── Regions of an area ──
 -- The n pairs of numbers that stand from `at` on, the last one first.
@@ -78,18 +74,6 @@ token-at a i =
 unfoldable pub queue-of : (tokens : List ℕ) → (n : ℕ) → List QueueableToken
 queue-of a zero = []
 queue-of a (suc n) = queue-of a n ++ (token-at a n ∷ [])
-
--- ── The tracker: a call limit of 0 is none ──
-abbrev pub reached-of : LimitReached → Option LimitKind
-reached-of No = none
-reached-of (By k) = some k
-
-abbrev pub limit-of : (current limit : ℕ) → Option CallLimit
-limit-of n zero = none
-limit-of n (suc l) = some (record { current = n; limit = suc l })
-
-abbrev pub tracker-of : CallLimitTracker → Pest.CallLimitTracker
-tracker-of t = record { current-call-limit = limit-of (t .current) (t .limit); limit-reached = reached-of (t .reached) }
 
 -- ── The state ──
 abbrev pub view : (tokens scratch : List ℕ) → ParserState → Pest.ParserState

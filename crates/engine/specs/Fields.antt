@@ -13,9 +13,9 @@ use Rattle.reading.specs.declared.parser_state.Atomicity.the-variants as Atoms
 use Rattle.reading.specs.declared.parser_state.Cause.{Cause}
 use Rattle.reading.specs.declared.parser_state.Cause.the-variants as Causes
 use Rattle.reading.specs.declared.call_limit_tracker.LimitKind.the-variants as Kinds
-use Rattle.engine.specs.declared.call_limit_tracker.LimitReached.{LimitReached}
-use Rattle.engine.specs.declared.call_limit_tracker.LimitReached.the-variants.{No, By}
-use Rattle.engine.specs.declared.call_limit_tracker.CallLimitTracker.{CallLimitTracker}
+use Rattle.checks.specs.declared.call_limit_tracker.LimitReached.{LimitReached}
+use Rattle.checks.specs.declared.call_limit_tracker.LimitReached.the-variants.{No, By}
+use Rattle.checks.specs.declared.call_limit_tracker.CallLimitTracker.{CallLimitTracker}
 use Rattle.engine.specs.declared.attempts.Attempts.{Attempts}
 use Rattle.engine.specs.declared.stack.Stack.{Stack}
 use Rattle.reading.specs.Ending.{if_then_else_}

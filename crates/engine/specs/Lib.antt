@@ -11,7 +11,6 @@ pub mod Report
 pub mod Evaluation
 pub mod Spine
 pub mod Leaves
-pub mod Refusals
 pub mod StackMatch
 pub mod Rule
 pub mod Ends

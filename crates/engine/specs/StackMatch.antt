@@ -1,4 +1,4 @@
--- Entries from the bottom, an index as the code answers it, the direction of a slice, and what popping and matching answers.
+-- Entries from the bottom, the direction of a slice, and what popping and matching answers.
 use mathlib.Core.Bool.{Bool}
 use mathlib.Core.List.{List}
 use mathlib.Core.Option.{Option, none, some}
@@ -6,8 +6,6 @@ use Prim.Native.Nat.{ℕ, _+_, _*_, _-_}
 use lib.ListN.{getD}
 use Rattle.matching.specs.declared.position.Matched.{Matched}
 use Rattle.matching.specs.declared.position.Matched.the-variants as Matched
-use Rattle.engine.specs.declared.stack_match.Index.{Index}
-use Rattle.engine.specs.declared.stack_match.Index.the-variants.{At, Outside}
 use Rattle.engine.specs.declared.stack_match.Next.{Next}
 use Rattle.engine.specs.declared.stack_match.MatchPopped.{MatchPopped}
 use Rattle.engine.specs.declared.stack_match.MatchPopped.the-variants as MatchPopped
@@ -19,10 +17,6 @@ use Rattle.engine.specs.Areas.{entries-at, span, stack-of}
 -- The entry at an index from the bottom.
 abbrev pub entry-at : (scratch : List ℕ) → (index : ℕ) → Span
 entry-at a i = span (getD a (entries-at + i * 2) 0) (getD a (entries-at + i * 2 + 1) 0)
-
-abbrev pub index-of : Option ℕ → Index
-index-of none = Outside
-index-of (some n) = At n
 
 -- A match as the definitions say it.
 abbrev pub match-of : Matched → Option ℕ

@@ -1,7 +1,6 @@
 // The end of a run: what it returns, and what then stands in its areas. Document 01, "Stops and refusals".
 use crate::attempts::Attempts;
 use crate::attempts::write_report;
-use crate::call_limit_tracker::LimitReached;
 use crate::fields::attempts;
 use crate::fields::cause;
 use crate::fields::queue;
@@ -10,6 +9,7 @@ use crate::parser_state::Ending;
 use crate::queueable_token::clear;
 use crate::queueable_token::write_tokens;
 use crate::state::Outcome;
+use checks::call_limit_tracker::LimitReached;
 use matching::position::BytePosition;
 use matching::position::TokenIndex;
 use reading::call_limit_tracker::LimitKind;

@@ -1,11 +1,11 @@
 // The entry of a combinator: pest's `inc_call_check_limit` and `check_stack_limit`.
-use crate::call_limit_tracker::Admitted;
-use crate::call_limit_tracker::LimitReached;
-use crate::call_limit_tracker::entered;
 use crate::fields::set_cause;
 use crate::fields::set_tracker;
 use crate::fields::tracker;
 use crate::parser_state::Ending;
+use checks::call_limit_tracker::Admitted;
+use checks::call_limit_tracker::LimitReached;
+use checks::call_limit_tracker::entered;
 use reading::parser_state::Cause;
 ghost use mathlib.Core.Path.{_≡_};
 ghost use mathlib.Core.List.{List};

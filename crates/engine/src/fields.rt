@@ -1,9 +1,9 @@
 // pest's `ParserState` but for its Vecs, which stand in lent areas of their own: the numbers of one more lent area. Like pest's Box it
 // stays in one place through a run, so that no function copies it.
 use crate::attempts::Attempts;
-use crate::call_limit_tracker::CallLimitTracker;
-use crate::call_limit_tracker::LimitReached;
 use crate::stack::Stack;
+use checks::call_limit_tracker::CallLimitTracker;
+use checks::call_limit_tracker::LimitReached;
 use matching::position::BytePosition;
 use matching::position::TokenIndex;
 use reading::call_limit_tracker::LimitKind;
@@ -13,7 +13,7 @@ use reading::parser_state::Lookahead;
 ghost use mathlib.Core.Path.{_≡_};
 ghost use Prim.Native.Nat.{_≤_};
 ghost use lib.ListN.{length};
-ghost use Rattle.engine.specs.declared.call_limit_tracker.LimitReached.the-variants as Reached;
+ghost use Rattle.checks.specs.declared.call_limit_tracker.LimitReached.the-variants as Reached;
 ghost use Rattle.engine.specs.Fields.{state-size, fields, lookahead-of, atomicity-of, reached-of, cause-of, set-position, set-queue, set-attempts, set-stack, set-tracker, set-lookahead, set-atomicity, set-cause};
 
 // Where each field stands.

@@ -1,15 +1,12 @@
-// The engine: grammar check, stack, token queue, attempts, call tracker, evaluation and run.
+// The engine: stack, token queue, attempts, evaluation and run.
 mod areas;
 mod attempts;
-pub mod call_limit_tracker;
 mod conclude;
 mod endings;
 mod entry;
 mod fields;
-mod grammar;
 mod leaves;
 mod node;
-mod nullable;
 mod parser_state;
 mod queueable_token;
 mod rule;

@@ -1,11 +1,10 @@
-// Node lines: four signed numbers each. All signed arithmetic of the grammar stands here.
+// The lines of an accepted grammar, as the evaluation reads them.
+use checks::node::natural_of;
 ghost use mathlib.Core.Path.{_≡_};
-ghost use mathlib.Core.Bool.{false};
-ghost use Prim.Native.Nat.{_*_, _≤_, _<_};
-ghost use lib.IntN.{pos};
-ghost use lib.ListN.{length, getD};
-ghost use Rattle.reading.specs.Grammar.{natural, row, node-at};
-ghost use Rattle.engine.specs.Lines.{line-of, ends-of, field-of};
+ghost use Prim.Native.Nat.{_*_, _≤_};
+ghost use lib.ListN.{length};
+ghost use Rattle.reading.specs.Grammar.{node-at};
+ghost use Rattle.engine.specs.Lines.{line-of, ends-of};
 
 // A node whose fields are read as natural numbers.
 pub struct Line {
@@ -15,36 +14,10 @@ pub struct Line {
     pub c: usize,
 }
 
-// A field of a line: whether it is 0 or more, and it as a natural number.
-pub struct Field {
-    pub count: bool,
-    pub size: usize,
-}
-
 // The two ends that `stack_match_peek_slice` is given, which may be negative.
 pub struct Ends {
     pub start: i32,
     pub end: i32,
-}
-
-// A field as a natural number: a negative one reads 0.
-fn natural_of(x: i32) -> usize
-    ensures { λ r. ⌜ r ≡ natural x ⌝ }
-{
-    if x < 0 { 0 } else { x as usize }
-}
-
-// A field with its sign.
-pub(crate) fn field_at(nodes: &[i32], i: usize) -> Field
-    requires { ⌜ i < length (now nodes) ⌝ }
-    ensures { λ r. ⌜ r ≡ field-of (getD (now (nodes .entry)) i (pos 0)) ⌝ }
-{
-    let x = nodes[i];
-    let size = natural_of(x);
-    Field {
-        count: 0 <= x,
-        size: size,
-    }
 }
 
 // The line, numbered from 1.
@@ -75,18 +48,4 @@ pub(crate) fn ends_at(nodes: &[i32], line: usize) -> Ends
         start: start,
         end: end,
     }
-}
-
-// What a table of twenty rows, one for each kind, says of a kind.
-pub(crate) fn row_of(rows: &[bool; 20], kind: usize) -> bool
-    requires { ⌜ length (now rows) ≡ 20 ⌝ }
-    ensures { λ r. ⌜ r ≡ row (now (rows .entry)) false (pos kind) ⌝ }
-{
-    if kind < 1 {
-        return rows[0];
-    }
-    if 20 < kind {
-        return false;
-    }
-    rows[kind - 1]
 }

@@ -10,17 +10,15 @@ use matching::position::Matched;
 use matching::position::match_string;
 use matching::span::as_bytes;
 ghost use mathlib.Core.Path.{_≡_};
-ghost use mathlib.Core.Bool.{true, _||_};
-ghost use mathlib.Core.Option.{none, some};
+ghost use mathlib.Core.Bool.{true};
 ghost use Prim.Native.Nat.{ℕ, _+_, _*_, _≤_, _<_};
 ghost use lib.ListN.{length};
-ghost use lib.Dec.{eqb, ltb, leb};
+ghost use lib.Dec.{leb};
 ghost use Rattle.matching.specs.Answers.{matched};
-ghost use Rattle.reading.specs.Ending.{if_then_else_};
-ghost use Rattle.reading.specs.Pest.{ParserState, set-stack, as-str, normalize-index, normalize-end, slice, all-match, stack-match-pop};
+ghost use Rattle.reading.specs.Pest.{ParserState, set-stack, as-str, slice, all-match, stack-match-pop};
 ghost use Rattle.engine.specs.Areas.{stack-of};
 ghost use Rattle.engine.specs.StackReady.{StackReady, OutsideStack};
-ghost use Rattle.engine.specs.StackMatch.{entry-at, index-of, next-of, match-end};
+ghost use Rattle.engine.specs.StackMatch.{entry-at, next-of, match-end};
 
 // The bytes of the entry at an index from the bottom, as a part of the text.
 pub(crate) fn entry<'a>(text: &'a [u8], scratch: &[u32], index: usize) -> &'a [u8]
@@ -29,51 +27,6 @@ pub(crate) fn entry<'a>(text: &'a [u8], scratch: &[u32], index: usize) -> &'a [u
 {
     let x = pair_at(scratch, ENTRIES_AT, index);
     as_bytes(text, span_of(x))
-}
-
-pub enum Index {
-    At(usize),
-    Outside,
-}
-
-// "an index above the height, or below minus the height, fails; a negative one counts from the height"
-pub(crate) fn normalize_index(i: i32, len: usize) -> Index
-    ensures { λ r. ⌜ r ≡ index-of (normalize-index i len) ⌝ }
-{
-    if i < 0 {
-        // by 64 bits, since the least number has no negative in 32
-        let size = -(i as i64) as usize;
-        if len < size {
-            return Index::Outside;
-        }
-        Index::At(len - size)
-    } else {
-        let size = i as usize;
-        if len < size {
-            return Index::Outside;
-        }
-        Index::At(size)
-    }
-}
-
-// Field c of kind 16: "0 bottom up, 1 top down; 2, 3 the same without end".
-pub(crate) fn normalize_end(i: i32, c: usize, len: usize) -> Index
-    ensures { λ r. ⌜ r ≡ index-of (normalize-end (if ltb c 2 then some i else none) len) ⌝ }
-{
-    if c < 2 {
-        normalize_index(i, len)
-    } else {
-        Index::At(len)
-    }
-}
-
-pub(crate) fn is_top_down(c: usize) -> bool
-    ensures { λ r. ⌜ r ≡ (eqb c 1 || eqb c 3) ⌝ }
-{
-    if c == 1 {
-        return true;
-    }
-    c == 3
 }
 
 // The entry that comes first in a slice, and the slice without it.

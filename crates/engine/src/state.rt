@@ -1,7 +1,5 @@
 // The run: pest's `state` over lent areas, with document 01's refusals and stops.
 use crate::attempts::Attempts;
-use crate::call_limit_tracker::CallLimitTracker;
-use crate::call_limit_tracker::LimitReached;
 use crate::conclude::conclude;
 use crate::fields::STATE_SIZE;
 use crate::fields::set_atomicity;
@@ -11,10 +9,12 @@ use crate::fields::set_position;
 use crate::fields::set_queue;
 use crate::fields::set_stack;
 use crate::fields::set_tracker;
-use crate::grammar::Refused;
-use crate::grammar::refusal;
 use crate::parser_state::node;
 use crate::stack::Stack;
+use checks::call_limit_tracker::CallLimitTracker;
+use checks::call_limit_tracker::LimitReached;
+use checks::grammar::Refused;
+use checks::grammar::refusal;
 use matching::position::BytePosition;
 use matching::position::TokenIndex;
 use reading::parser_state::Atomicity;

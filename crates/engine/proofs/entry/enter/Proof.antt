@@ -2,8 +2,8 @@
 use mathlib.Core.Path.{ap}
 use mathlib.Core.Bool.{true, false}
 use lib.Dec.{ltb}
-use Rattle.engine.specs.Entry.{entered-of}
-use Rattle.engine.proofs.TrackerLaws.{entry-is}
+use Rattle.checks.specs.Tracker.{entered-of}
+use Rattle.engine.proofs.EntryLaws.{entry-is}
 use borrow.Author.Needs.{needs}
 use Rattle.engine.proofs.entry.enter.Statement.{statement}
 use Rattle.engine.proofs.entry.enter.Tie as tie

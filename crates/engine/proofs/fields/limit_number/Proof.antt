@@ -1,6 +1,6 @@
 -- Both kinds.
 use mathlib.Core.Path.{ap, sym}
-use Rattle.engine.specs.declared.call_limit_tracker.LimitReached.the-variants.{By}
+use Rattle.checks.specs.declared.call_limit_tracker.LimitReached.the-variants.{By}
 use borrow.Author.Needs.{needs}
 use Rattle.engine.proofs.fields.limit_number.Statement.{statement}
 use Rattle.engine.proofs.fields.limit_number.Tie as tie

@@ -1,5 +1,5 @@
 -- Both fields read back as themselves.
-use Rattle.engine.proofs.FieldLaws.{ends-read}
+use Rattle.engine.proofs.LineFields.{ends-read}
 use borrow.Author.Needs.{needs}
 use Rattle.engine.proofs.node.ends_at.Statement.{statement}
 use Rattle.engine.proofs.node.ends_at.Tie as tie

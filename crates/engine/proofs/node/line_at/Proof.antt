@@ -1,5 +1,5 @@
 -- Every field read is in the slice, and the four readings are the line's by one law.
-use Rattle.engine.proofs.FieldLaws.{line-read}
+use Rattle.engine.proofs.LineFields.{line-read}
 use borrow.Author.Needs.{needs}
 use Rattle.engine.proofs.node.line_at.Statement.{statement}
 use Rattle.engine.proofs.node.line_at.Tie as tie

@@ -3,7 +3,7 @@ use mathlib.Core.Path.{_∙_}
 use native.Mathlib.Omega.{arith}
 use borrow.Author.Needs.{needs}
 use Rattle.engine.specs.Fields.{fields}
-use Rattle.engine.proofs.IndexLaws.{back}
+use Rattle.checks.proofs.FieldLaws.{back}
 use Rattle.engine.proofs.Steps.{placed, state-of, place-of, tests}
 use Rattle.engine.proofs.LineSteps.{whole, few}
 use Rattle.engine.proofs.TerminalSteps.{tag-low, leaf-of, end-15, end-16, end-17, end-19}

@@ -3,8 +3,8 @@ use mathlib.Core.Path.{ap, _∙_}
 use lib.IntN.{ℤ}
 use Rattle.reading.specs.Pest.{normalize-index, normalize-end}
 use Rattle.engine.specs.Fields.{fields}
-use Rattle.engine.specs.StackMatch.{index-of}
-use Rattle.engine.proofs.IndexLaws.{back}
+use Rattle.checks.specs.PeekIndex.{index-of}
+use Rattle.checks.proofs.FieldLaws.{back}
 use Rattle.engine.proofs.StateSteps.{end-of, start-out, end-out, end-below, slice-empty, slice-moved}
 use borrow.Author.Needs.{needs}
 use Rattle.engine.proofs.stack_state.stack_match_peek_slice.Statement.{statement}

@@ -3,7 +3,7 @@ use mathlib.Core.Path.{refl, sym, _∙_}
 use lib.ListN.{length}
 use Rattle.reading.specs.Outcome.{Input}
 use Rattle.reading.specs.Run.{input}
-use Rattle.engine.proofs.RefusalLaws.{not-refused}
+use Rattle.checks.proofs.RefusalLaws.{not-refused}
 use Rattle.engine.proofs.RunLaws.{refused-is}
 use borrow.Author.Needs.{needs}
 use Rattle.engine.proofs.state.run.Statement.{statement}

@@ -1,0 +1,4 @@
+pub mod FieldTests
+pub mod PeekIndex
+pub mod Refusals
+pub mod Tracker
