@@ -1,1 +1,2 @@
+pub mod SheetRun
 pub mod Listed

@@ -5,7 +5,7 @@ use mathlib.Core.List.{List}
 use lib.IntN.{ℤ, pos}
 use lib.ListN.{length, replicate}
 use Rattle.engine.specs.declared.state.Outcome.{Outcome}
-use Rattle.sheet.specs.SheetRun.{Given, SheetRun}
+use Rattle.files.specs.SheetRun.{Given, SheetRun}
 
 -- planread's areas and limits. A node area of 4,096 fours is short for no sheet.
 abbrev pub given : (literals text : List ℕ) → Given

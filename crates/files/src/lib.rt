@@ -1,8 +1,10 @@
 // A sheet, a literal text and a text by their files' names, and the listing on standard output.
+pub mod run_sheet;
+
+use crate::run_sheet::run_sheet;
 use engine::state::Outcome;
 use libc::STDOUT_FILENO;
 use sheet::listing::write_listing_line;
-use sheet::run_sheet::run_sheet;
 ghost use Rattle.io.specs.Counts.{Counts};
 ghost use Rattle.files.specs.Listed.{Answers, Listed};
 

@@ -4,4 +4,3 @@ pub mod Area
 pub mod Sheet
 pub mod Listing
 pub mod Answers
-pub mod SheetRun

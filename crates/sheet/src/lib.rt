@@ -2,5 +2,4 @@
 mod field;
 pub mod listing;
 mod numeral;
-pub mod run_sheet;
 pub mod sheet;

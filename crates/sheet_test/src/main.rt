@@ -1,8 +1,8 @@
 // Runs read_sheet on good and broken sheets, and writes a line for each: its name, number, place and count, and the node area; then
 // listings, and run_sheet with the limits and areas that planread never has.
 use engine::state::Outcome;
+use files::run_sheet::run_sheet;
 use sheet::listing::write_listing_line;
-use sheet::run_sheet::run_sheet;
 use sheet::sheet::read_sheet;
 
 const OUT: i32 = 1;

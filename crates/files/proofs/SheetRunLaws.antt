@@ -10,10 +10,10 @@ use lib.IntN.{ℤ}
 use lib.ListN.{length, take, drop}
 use lib.Seq.{take-append-seam}
 use Rattle.engine.specs.declared.state.Outcome.{Outcome}
 use Rattle.sheet.specs.Area.{over}
 use Rattle.sheet.specs.Sheet.{Node, cut, count, lines, line, reads, first-malformed, four, numbers, Reading, refused, read, reading, outcome, SheetRead}
-use Rattle.sheet.specs.SheetRun.{Given, Back, Answered, SheetRun}
+use Rattle.files.specs.SheetRun.{Given, Back, Answered, SheetRun}
 use Rattle.sheet.proofs.SheetLaws.{lined-odd, test-1, Passed, passed}
 
 cut-length : (n : ℕ) (s : List ℕ) → length (cut n s) ≡ n
 unfolding cut

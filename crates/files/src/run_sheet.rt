@@ -1,9 +1,9 @@
 // A sheet's grammar over a text: the sheet is read first, and the nodes that it gave are run.
-use crate::sheet::read_sheet;
 use engine::state::Outcome;
 use engine::state::run;
+use sheet::sheet::read_sheet;
 ghost use lib.ListN.{length};
-ghost use Rattle.sheet.specs.SheetRun.{SheetRun};
+ghost use Rattle.files.specs.SheetRun.{SheetRun};
 
 // Document 01's tests and stops in order, 1 to 16. A refused sheet leaves all areas, a refused run those of the run.
 pub fn run_sheet<'a>(

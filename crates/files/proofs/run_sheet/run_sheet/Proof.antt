@@ -1,8 +1,8 @@
 -- A refused sheet gives its own answer; a good one lends its nodes, and the run's promise is the rest.
-use Rattle.sheet.proofs.SheetRunLaws.{run-refused, run-read}
+use Rattle.files.proofs.SheetRunLaws.{run-refused, run-read}
 use borrow.Author.Needs.{needs}
-use Rattle.sheet.proofs.run_sheet.run_sheet.Statement.{statement}
-use Rattle.sheet.proofs.run_sheet.run_sheet.Tie as tie
+use Rattle.files.proofs.run_sheet.run_sheet.Statement.{statement}
+use Rattle.files.proofs.run_sheet.run_sheet.Tie as tie
 
 read-sheet-requires : tie.Need-read-sheet-requires
 read-sheet-requires c κs = search needs
