@@ -30,6 +30,7 @@ ghost use Rattle.engine.specs.Fields.{state-size, fields};
 ghost use Rattle.engine.specs.Areas.{view, view-end};
 ghost use Rattle.engine.specs.Ends.{EndReady, PushEndReady, RuleOkReady, RuleEndReady, atomic-back, looking};
 ghost use Rattle.engine.specs.Rule.{Tracking};
+ghost use Rattle.engine.specs.StackReady.{StateReady};
 
 // On Err, position and stack return, and the queue is cut to its length at the start.
 pub(crate) fn sequence_end(
@@ -114,7 +115,18 @@ fn looked(s: &[usize], good: bool) -> Ending
     }
 }
 
-// Position, lookahead and stack return, whatever the body answered.
+// Position, lookahead and stack return.
+fn back_to(scratch: &mut [u32], s: &mut [usize], position: BytePosition, lookahead: Lookahead)
+    requires { ⌜ state-size ≤ length (now s) ⌝ }
+    requires { ⌜ StateReady (now scratch) (fields (now s)) ⌝ }
+    ensures { λ _. ⌜ ((tokens : List ℕ) → view tokens (now (scratch .exit)) (fields (now (s .exit))) ≡ Pest.restored (Pest.set-lookahead lookahead (Pest.set-position (position .0) (view tokens (now (scratch .entry)) (fields (now (s .entry))))))) ⌝ }
+{
+    set_position(s, position);
+    set_lookahead(s, lookahead);
+    restored(scratch, s);
+}
+
+// They return whatever the body answered.
 pub(crate) fn lookahead_end(
     scratch: &mut [u32],
     s: &mut [usize],
@@ -129,15 +141,11 @@ pub(crate) fn lookahead_end(
 {
     match r {
         Ending::Ok => {
-            set_position(s, position);
-            set_lookahead(s, lookahead);
-            restored(scratch, s);
+            back_to(scratch, s, position, lookahead);
             looked(s, positive)
         }
         Ending::Err => {
-            set_position(s, position);
-            set_lookahead(s, lookahead);
-            restored(scratch, s);
+            back_to(scratch, s, position, lookahead);
             looked(s, !positive)
         }
         Ending::Stop => Ending::Stop,

@@ -346,37 +346,21 @@ fn short_areas() {
     );
 }
 
-fn limits() {
+// In areas that are as long as they must be.
+fn at_limits(name: &[u8], depth: u32, calls: u32) {
     let mut nodes = [5i32; 13];
     let mut report = [9u32; 515];
     let mut scratch = [9u32; 4864];
-    limited(b"run, depth 0", 0, 0, &mut nodes, &mut report, &mut scratch);
-    limited(b"run, depth 1", 1, 0, &mut nodes, &mut report, &mut scratch);
-    limited(b"run, depth 2", 2, 0, &mut nodes, &mut report, &mut scratch);
-    limited(
-        b"run, depth 1,025",
-        1025,
-        0,
-        &mut nodes,
-        &mut report,
-        &mut scratch,
-    );
-    limited(
-        b"run, call limit 1",
-        2,
-        1,
-        &mut nodes,
-        &mut report,
-        &mut scratch,
-    );
-    limited(
-        b"run, call limit 2",
-        2,
-        2,
-        &mut nodes,
-        &mut report,
-        &mut scratch,
-    );
+    limited(name, depth, calls, &mut nodes, &mut report, &mut scratch);
+}
+
+fn limits() {
+    at_limits(b"run, depth 0", 0, 0);
+    at_limits(b"run, depth 1", 1, 0);
+    at_limits(b"run, depth 2", 2, 0);
+    at_limits(b"run, depth 1,025", 1025, 0);
+    at_limits(b"run, call limit 1", 2, 1);
+    at_limits(b"run, call limit 2", 2, 2);
 }
 
 fn main() {
