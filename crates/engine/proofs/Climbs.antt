@@ -1,14 +1,14 @@
 -- The climb from the leftmost line of a spine: what each line makes of its left side's ending is what its own evaluation comes to.
 use mathlib.Core.Path.{_≡_, refl, sym, ap, subst, _∙_}
 use mathlib.Core.Logic.{inl, inr}
-use mathlib.Core.Bool.{Bool, true, false, not, true≢false, false≢true}
+use mathlib.Core.Bool.{true, false, false≢true}
 use mathlib.Core.List.{List}
 use Prim.Native.Nat.{ℕ, zero, suc, _+_, _-_, _*_, _≤_, _<_}
 use native.Mathlib.Omega.{arith}
 use lib.Dec.{eqb}
 use lib.IntN.{ℤ}
 use lib.ListN.{length}
-use borrow.Author.Tests.{eq-eqb, ne-eqb}
+use borrow.Author.Tests.{eq-eqb, ne-eqb, eqb-true}
 use Rattle.engine.specs.declared.node.Line.{Line}
 use Rattle.engine.specs.declared.spine.Spine.{Spine}
 use Rattle.engine.specs.Fields as Code
@@ -32,7 +32,7 @@ pub data Onward : Type 0 where
 
 unfoldable pub going : (kind : ℕ) → Ending ParserState → Onward
 going k (Ok m) = if eqb k 6 then go m else stay (Ok m)
-going k (Err m) = if eqb k 6 then stay (Err m) else go m
+going k (Err m) = if eqb k 7 then go m else stay (Err m)
 going k (Stop c) = stay (Stop c)
 
 abbrev pub onto : (ParserState → Ending ParserState) → Onward → Ending ParserState
@@ -42,13 +42,13 @@ onto f (stay x) = x
 going-and : (f : ParserState → Ending ParserState) (k : ℕ) → k ≡ 6 → (x : Ending ParserState) → onto f (going k x) ≡ on-ok x (λ m. f m)
 unfolding going
 going-and f k e (Ok m) = simp (eq-eqb k 6 e)
-going-and f k e (Err m) = simp (eq-eqb k 6 e)
+going-and f k e (Err m) = simp (ne-eqb k 7 (λ q. omega arith))
 going-and f k e (Stop c) = refl
 
 going-or : (f : ParserState → Ending ParserState) (k : ℕ) → k ≡ 7 → (x : Ending ParserState) → onto f (going k x) ≡ on-err x (λ m. f m)
 unfolding going
 going-or f k e (Ok m) = simp (ne-eqb k 6 (λ q. omega arith))
-going-or f k e (Err m) = simp (ne-eqb k 6 (λ q. omega arith))
+going-or f k e (Err m) = simp (eq-eqb k 7 e)
 going-or f k e (Stop c) = refl
 
 -- The code's test, by the ending that it is asked of.
@@ -56,7 +56,7 @@ pub goes-ok : (k : ℕ) (e : Coded.Ending) → e ≡ Coded-of.Ok → eqb k 6 ≡
 unfolding goes
 goes-ok k e h = rw h
 
-pub goes-err : (k : ℕ) (e : Coded.Ending) → e ≡ Coded-of.Err → not (eqb k 6) ≡ goes k e
+pub goes-err : (k : ℕ) (e : Coded.Ending) → e ≡ Coded-of.Err → eqb k 7 ≡ goes k e
 unfolding goes
 goes-err k e h = rw h
 
@@ -67,22 +67,20 @@ goes-stop k e h = rw h
 pub goes-yes : (a b : List ℕ) (s : Code.ParserState) (k : ℕ) (e : Coded.Ending) → goes k e ≡ true → go (view a b s) ≡ going k (view-end a b s e)
 unfolding going goes
 goes-yes a b s k Coded-of.Ok h = simp h
-goes-yes a b s k Coded-of.Err h = by (eqb k 6) h
-  where
-    by : (z : Bool) → not z ≡ true → go (view a b s) ≡ (if z then stay (Err (view a b s)) else go (view a b s))
-    by true q = absurd (false≢true q)
-    by false q = refl
+goes-yes a b s k Coded-of.Err h = simp h
 goes-yes a b s k Coded-of.Stop h = absurd (false≢true h)
 
 pub goes-no : (a b : List ℕ) (s : Code.ParserState) (k : ℕ) (e : Coded.Ending) → goes k e ≡ false → stay (view-end a b s e) ≡ going k (view-end a b s e)
 unfolding going goes
 goes-no a b s k Coded-of.Ok h = simp h
-goes-no a b s k Coded-of.Err h = by (eqb k 6) h
-  where
-    by : (z : Bool) → not z ≡ false → stay (Err (view a b s)) ≡ (if z then stay (Err (view a b s)) else go (view a b s))
-    by true q = refl
-    by false q = absurd (true≢false q)
+goes-no a b s k Coded-of.Err h = simp h
 goes-no a b s k Coded-of.Stop h = refl
+
+pub goes-fork : (k : ℕ) (e : Coded.Ending) → goes k e ≡ true → Fork k
+unfolding goes
+goes-fork k Coded-of.Ok h = inl (eqb-true k 6 h)
+goes-fork k Coded-of.Err h = inr (eqb-true k 7 h)
+goes-fork k Coded-of.Stop h = absurd (false≢true h)
 
 -- ── The lines of an accepted grammar that are forks ──
 abbrev pub right-of : List ℤ → (line : ℕ) → ℕ

@@ -2,6 +2,7 @@
 -- side or is done, and the evaluation of the line that the walk began with goes along.
 use mathlib.Core.Path.{_≡_, refl, sym, ap, subst, _∙_}
 use mathlib.Core.Bool.{Bool, true, false, true≢false, false≢true}
+use mathlib.Core.Logic.{inl, inr}
 use mathlib.Core.List.{List}
 use mathlib.Core.Option.{Option, none, some}
 use Prim.Native.Nat.{ℕ, _≤_, _<_}
@@ -128,11 +129,12 @@ stay-ok k e m = simp (ne-eqb k 6 e)
 
 stay-err : (k : ℕ) → k ≡ 6 → (m : ParserState) → stay (Err m) ≡ going k (Err m)
 unfolding going
-stay-err k e m = simp (eq-eqb k 6 e)
+stay-err k e m = simp (ne-eqb k 7 (λ q. omega arith))
 
-go-err : (k : ℕ) → (k ≡ 6 → ⊥) → (m : ParserState) → go m ≡ going k (Err m)
+go-err : (k : ℕ) → Fork k → (k ≡ 6 → ⊥) → (m : ParserState) → go m ≡ going k (Err m)
 unfolding going
-go-err k e m = simp (ne-eqb k 6 e)
+go-err k (inl e) n m = absurd (n e)
+go-err k (inr e) n m = simp (eq-eqb k 7 e)
 
 -- The walk's fork at `at`, as read.
 module _ (ns : List ℤ) (literals : List ℕ) (w : Accepted ns literals) (at : ℕ) (i : Line ns at) (n : Read.Line) (e : n ≡ line-of (node-at ns at)) (f : Fork (n .kind)) where
@@ -177,7 +179,7 @@ module _ (ns : List ℤ) (literals : List ℕ) (w : Accepted ns literals) (at : 
       here = right-line;
       upto = omega (arith, right-in .1, o .upto);
       fit = o .fit;
-      runs = ap (onto (at-line (n .b))) (go-err (n .kind) k (set-position p m)) ∙ ends (Err (set-position p m)) h;
+      runs = ap (onto (at-line (n .b))) (go-err (n .kind) f k (set-position p m)) ∙ ends (Err (set-position p m)) h;
     }
 
     pub done-ok : (n .kind ≡ 6 → ⊥) → (q : ℕ) → Ok (set-position q m) ≡ at-line (n .a) (set-position p m) → Ok (set-position q m) ≡ at-line line m

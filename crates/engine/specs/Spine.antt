@@ -1,6 +1,6 @@
 -- Left sides of kinds 6 and 7, one below the other: how the evaluation goes down them without opening a call.
 use mathlib.Core.Path.{_≡_}
-use mathlib.Core.Bool.{Bool, true, false, not}
+use mathlib.Core.Bool.{Bool, true, false, _||_}
 use mathlib.Core.Logic.{_⊎_}
 use mathlib.Core.List.{List}
 use Prim.Native.Nat.{ℕ, zero, suc, _*_, _≤_, _<_}
@@ -10,6 +10,7 @@ use lib.Dec.{eqb}
 use Rattle.engine.specs.declared.spine.Spine.{Spine}
 use Rattle.engine.specs.declared.parser_state.Ending.{Ending}
 use Rattle.engine.specs.declared.parser_state.Ending.the-variants.{Ok, Err, Stop}
+use Rattle.reading.specs.Ending.{if_then_else_}
 use Rattle.reading.specs.Grammar.{natural, node-at, kind-at, line-count}
 
 abbrev pub left-of : List ℤ → (line : ℕ) → ℕ
@@ -40,10 +41,14 @@ pub record Spined (ns : List ℤ) (top : ℕ) (r : Spine) : Type 0 where
   pub place : r .line ≡ spine-line ns top (r .count)
   pub last : Fork (kind-at ns (r .line)) → ⊥
 
--- Whether a fork's right side is evaluated, where its left side ended so.
+-- A fork's left side; another line itself.
+abbrev pub below : List ℤ → (line : ℕ) → ℕ
+below ns l = if eqb (kind-at ns l) 6 || eqb (kind-at ns l) 7 then left-of ns l else l
+
+-- Whether the line's right side is evaluated, where its left side ended so: a fork's, as its kind asks.
 unfoldable pub goes : (kind : ℕ) → Ending → Bool
 goes k Ok = eqb k 6
-goes k Err = not (eqb k 6)
+goes k Err = eqb k 7
 goes k Stop = false
 
 -- An ending that is no stop.

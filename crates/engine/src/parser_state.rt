@@ -25,7 +25,6 @@ use crate::rule::tag_node;
 use crate::spine::descend;
 use crate::spine::ended;
 use crate::spine::goes_right;
-use crate::spine::is_fork;
 use crate::spine::spine_at;
 use crate::stack_state::checkpoint;
 use crate::stack_state::moved;
@@ -42,7 +41,7 @@ ghost use Rattle.reading.specs.Grammar.{kind-at, tree-at, atomicity-of};
 ghost use Rattle.reading.specs.Pest as Pest;
 ghost use Rattle.engine.specs.Fields.{state-size, fields};
 ghost use Rattle.engine.specs.Areas.{view, view-end};
-ghost use Rattle.engine.specs.Spine.{Fork, left-of};
+ghost use Rattle.engine.specs.Spine.{Fork, below};
 ghost use Rattle.engine.specs.Evaluation.{Ready, Line, evaluated, opens-call};
 
 // "Evaluation ends Ok, Err, or in a stop that names its cause." The state that it left, and the cause in it, stand where they were lent.
@@ -119,7 +118,8 @@ fn terminal<'a>(
 // state (fields.rt), `room` how many tokens the area has room for, `depth` how many more calls may be open. ──
 
 // The line. Kinds 6 and 7 are walked here: a fork's left side, and then, if it ended as the kind asks, its right side as the loop's next
-// line, so that no native stack is taken for it.
+// line, so that no native stack is taken for it. (Each function of the cycle but this one has one caller, so that the compiler makes one
+// function of them all: an open call then takes one frame.)
 pub(crate) fn node<'a>(
     nodes: &[i32],
     literals: &'a [u8],
@@ -146,9 +146,6 @@ pub(crate) fn node<'a>(
         }
         at = w.line;
         let n = line_at(nodes, at);
-        if !is_fork(n.kind) {
-            return simple(nodes, literals, text, tokens, scratch, s, room, depth, at);
-        }
         let e = left_side(nodes, literals, text, tokens, scratch, s, room, depth, at);
         if !goes_right(n.kind, e) {
             return e;
@@ -158,7 +155,7 @@ pub(crate) fn node<'a>(
 }
 
 // The left side of a fork: from its leftmost line up, each right side whose left side ended as its kind asks. Left sides below left sides
-// take no native stack.
+// take no native stack. Another line is its own leftmost line.
 fn left_side<'a>(
     nodes: &[i32],
     literals: &'a [u8],
@@ -171,8 +168,8 @@ fn left_side<'a>(
     line: usize,
 ) -> Ending
     requires { ⌜ Ready (now nodes) (now literals) (now text) (now tokens) (now scratch) room depth (view (now tokens) (now scratch) (fields (now s))) × (state-size ≤ length (now s)) ⌝ }
-    requires { ⌜ Line (now nodes) line × Fork (kind-at (now nodes) line) ⌝ }
-    ensures { λ r. ⌜ view-end (now (tokens .exit)) (now (scratch .exit)) (fields (now (s .exit))) r ≡ evaluated (now (nodes .entry)) (now (literals .entry)) (now (text .entry)) room depth (tree-at (now (nodes .entry)) (now (literals .entry)) (left-of (now (nodes .entry)) line)) (view (now (tokens .entry)) (now (scratch .entry)) (fields (now (s .entry)))) ⌝ }
+    requires { ⌜ Line (now nodes) line ⌝ }
+    ensures { λ r. ⌜ view-end (now (tokens .exit)) (now (scratch .exit)) (fields (now (s .exit))) r ≡ evaluated (now (nodes .entry)) (now (literals .entry)) (now (text .entry)) room depth (tree-at (now (nodes .entry)) (now (literals .entry)) (below (now (nodes .entry)) line)) (view (now (tokens .entry)) (now (scratch .entry)) (fields (now (s .entry)))) ⌝ }
 {
     let low = descend(nodes, line);
     let mut e = simple(

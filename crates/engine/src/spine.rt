@@ -58,13 +58,13 @@ pub(crate) fn is_fork(kind: usize) -> bool
     if kind == 6 { true } else { kind == 7 }
 }
 
-// Whether a fork's right side is evaluated, where its left side ended so.
+// Whether the line's right side is evaluated, where its left side ended so. Only a fork has one.
 pub(crate) fn goes_right(kind: usize, left: Ending) -> bool
     ensures { λ r. ⌜ r ≡ goes kind left ⌝ }
 {
     match left {
         Ending::Ok => kind == 6,
-        Ending::Err => kind != 6,
+        Ending::Err => kind == 7,
         Ending::Stop => false,
     }
 }

@@ -24,20 +24,20 @@ module _ (t : ℕ) where
   descend-requires : left-side-lts.Need-descend-requires (left-side-calls t) (left-side-at t) left-side.Post Inv-loop μ-loop
   descend-requires c κs =
       let S = c .before .before .before .before .before in
-      slopes _ _ _ _ _ _ _ _ _ (S .pre .1 .0 .0) (S .pre .1 .1 .0)
+      slopes _ _ _ _ _ _ _ _ _ (S .pre .1 .0 .0) (S .pre .1 .1)
 
   simple-requires : left-side-lts.Need-simple-requires (left-side-calls t) (left-side-at t) left-side.Post Inv-loop μ-loop
   simple-requires c κs =
       let at-descend = c .before .before .before in
       let S = c .before .before .before .before .before .before .before .before .before in
-      (omega (arith, S .pre .0, low-upto _ _ _ _ _ _ _ _ _ (S .pre .1 .0 .0) (S .pre .1 .1 .0) _ (at-descend .descend .ensures)), (((S .pre .1 .0 .0), (S .pre .1 .0 .1)), (low-line _ _ _ _ _ _ _ _ _ (S .pre .1 .0 .0) (S .pre .1 .1 .0) _ (at-descend .descend .ensures), at-descend .descend .ensures .last)))
+      (omega (arith, S .pre .0, low-upto _ _ _ _ _ _ _ _ _ (S .pre .1 .0 .0) (S .pre .1 .1) _ (at-descend .descend .ensures)), (((S .pre .1 .0 .0), (S .pre .1 .0 .1)), (low-line _ _ _ _ _ _ _ _ _ (S .pre .1 .0 .0) (S .pre .1 .1) _ (at-descend .descend .ensures), at-descend .descend .ensures .last)))
 
   loop-holds : left-side-lts.Need-loop-holds (left-side-calls t) (left-side-at t) left-side.Post Inv-loop μ-loop
   loop-holds c =
       let at-simple = c .before .before .before .before .before .before in
       let at-descend = c .before .before .before .before .before .before .before .before .before .before in
       let S = c .before .before .before .before .before .before .before .before .before .before .before .before .before .before .before .before in
-      (first-climb _ _ _ _ _ _ _ _ _ (S .pre .1 .0 .0) (S .pre .1 .1 .0) _ (at-descend .descend .ensures) (S .pre .1 .1 .1) _ _ _ (at-simple .simple .ensures), refl)
+      (first-climb _ _ _ _ _ _ _ _ _ (S .pre .1 .0 .0) (S .pre .1 .1) _ (at-descend .descend .ensures) _ _ _ (at-simple .simple .ensures), refl)
 
   sub-i : left-side-lts.Need-sub-i (left-side-calls t) (left-side-at t) left-side.Post Inv-loop μ-loop
   sub-i c = omega (arith, c .loop-test .taken)
@@ -46,13 +46,13 @@ module _ (t : ℕ) where
   spine-at-requires c κs =
       let at-descend = c .before .before .before .before .before .before .before .before .before .before .before .before in
       let S = c .before .before .before .before .before .before .before .before .before .before .before .before .before .before .before .before .before .before in
-      (slopes _ _ _ _ _ _ _ _ _ (S .pre .1 .0 .0) (S .pre .1 .1 .0), forks-below _ _ _ _ _ _ _ _ _ (S .pre .1 .0 .0) (S .pre .1 .1 .0) _ (at-descend .descend .ensures) _ (omega (arith, c .before .loop .inv .0 .upto)))
+      (slopes _ _ _ _ _ _ _ _ _ (S .pre .1 .0 .0) (S .pre .1 .1), forks-below _ _ _ _ _ _ _ _ _ (S .pre .1 .0 .0) (S .pre .1 .1) _ (at-descend .descend .ensures) _ (omega (arith, c .before .loop .inv .0 .upto)))
 
   line-at-requires : left-side-lts.Need-line-at-requires (left-side-calls t) (left-side-at t) left-side.Post Inv-loop μ-loop
   line-at-requires c κs =
       let at-descend = c .before .before .before .before .before .before .before .before .before .before .before .before .before in
       let S = c .before .before .before .before .before .before .before .before .before .before .before .before .before .before .before .before .before .before .before in
-      line-whole _ _ _ _ _ _ _ _ _ (S .pre .1 .0 .0) (S .pre .1 .1 .0) _ (at-descend .descend .ensures) _ _ (omega (arith, c .before .before .loop .inv .0 .upto)) (c .spine-at .ensures)
+      line-whole _ _ _ _ _ _ _ _ _ (S .pre .1 .0 .0) (S .pre .1 .1) _ (at-descend .descend .ensures) _ _ (omega (arith, c .before .before .loop .inv .0 .upto)) (c .spine-at .ensures)
 
   goes-right-requires : left-side-lts.Need-goes-right-requires (left-side-calls t) (left-side-at t) left-side.Post Inv-loop μ-loop
   goes-right-requires c κs = search needs
@@ -68,7 +68,7 @@ module _ (t : ℕ) where
       let at-simple = c .before .before .before .before .before .before .before .before .before .before .before .before .before .before .before in
       let at-descend = c .before .before .before .before .before .before .before .before .before .before .before .before .before .before .before .before .before .before .before in
       let S = c .before .before .before .before .before .before .before .before .before .before .before .before .before .before .before .before .before .before .before .before .before .before .before .before .before in
-      (omega (arith, S .pre .0, climb-in _ _ _ _ _ _ _ _ _ (S .pre .1 .0 .0) (S .pre .1 .1 .0) _ (at-descend .descend .ensures) _ _ _ (at-simple .simple .kept .1 .1 .1 .0) (at-simple .simple .kept .1 .1 .1 .1 .0) _ _ _ _ (at-loop .loop .inv .0) (at-loop-test .loop-test .taken) _ (at-spine-at .spine-at .ensures) _ (at-line-at .line-at .ensures) .1), ((go-ready _ _ _ _ _ _ _ _ _ (S .pre .1 .0 .0) (S .pre .1 .1 .0) _ (at-descend .descend .ensures) _ _ _ (at-simple .simple .kept .1 .1 .1 .0) (at-simple .simple .kept .1 .1 .1 .1 .0) _ _ _ _ (at-loop .loop .inv .0) _ _ (goes-yes _ _ _ _ _ (sym (at-goes-right .goes-right .ensures) ∙ at-if1 .if1 .taken)), (wide-on (S .pre .1 .0 .1) (at-loop .loop .inv .1 ∙ at-simple .simple .kept .1 .1 .1 .1 .1 .0))), climb-line _ _ _ _ _ _ _ _ _ (S .pre .1 .0 .0) (S .pre .1 .1 .0) _ (at-descend .descend .ensures) _ _ _ (at-simple .simple .kept .1 .1 .1 .0) (at-simple .simple .kept .1 .1 .1 .1 .0) _ _ _ _ (at-loop .loop .inv .0) (at-loop-test .loop-test .taken) _ (at-spine-at .spine-at .ensures) _ (at-line-at .line-at .ensures)))
+      (omega (arith, S .pre .0, climb-in _ _ _ _ _ _ _ _ _ (S .pre .1 .0 .0) (S .pre .1 .1) _ (at-descend .descend .ensures) _ _ _ (at-simple .simple .kept .1 .1 .1 .0) (at-simple .simple .kept .1 .1 .1 .1 .0) _ _ _ _ (at-loop .loop .inv .0) (at-loop-test .loop-test .taken) _ (at-spine-at .spine-at .ensures) _ (at-line-at .line-at .ensures) .1), ((go-ready _ _ _ _ _ _ _ _ _ (S .pre .1 .0 .0) (S .pre .1 .1) _ (at-descend .descend .ensures) _ _ _ (at-simple .simple .kept .1 .1 .1 .0) (at-simple .simple .kept .1 .1 .1 .1 .0) _ _ _ _ (at-loop .loop .inv .0) _ _ (goes-yes _ _ _ _ _ (sym (at-goes-right .goes-right .ensures) ∙ at-if1 .if1 .taken)), (wide-on (S .pre .1 .0 .1) (at-loop .loop .inv .1 ∙ at-simple .simple .kept .1 .1 .1 .1 .1 .0))), climb-line _ _ _ _ _ _ _ _ _ (S .pre .1 .0 .0) (S .pre .1 .1) _ (at-descend .descend .ensures) _ _ _ (at-simple .simple .kept .1 .1 .1 .0) (at-simple .simple .kept .1 .1 .1 .1 .0) _ _ _ _ (at-loop .loop .inv .0) (at-loop-test .loop-test .taken) _ (at-spine-at .spine-at .ensures) _ (at-line-at .line-at .ensures)))
 
   loop-less : left-side-lts.Need-loop-less (left-side-calls t) (left-side-at t) left-side.Post Inv-loop μ-loop
   loop-less c =
@@ -87,7 +87,7 @@ module _ (t : ℕ) where
       let at-simple = c .before .before .before .before .before .before .before .before .before .before .before .before .before .before .before .before .before .before .before .before .before .before in
       let at-descend = c .before .before .before .before .before .before .before .before .before .before .before .before .before .before .before .before .before .before .before .before .before .before .before .before .before .before in
       let S = c .before .before .before .before .before .before .before .before .before .before .before .before .before .before .before .before .before .before .before .before .before .before .before .before .before .before .before .before .before .before .before .before in
-      (climb-go _ _ _ _ _ _ _ _ _ (S .pre .1 .0 .0) (S .pre .1 .1 .0) _ (at-descend .descend .ensures) _ _ _ (at-simple .simple .kept .1 .1 .1 .0) (at-simple .simple .kept .1 .1 .1 .1 .0) _ _ _ _ (at-loop .loop .inv .0) (at-loop-test .loop-test .taken) _ (at-spine-at .spine-at .ensures) _ (at-line-at .line-at .ensures) _ (goes-yes _ _ _ _ _ (sym (at-goes-right .goes-right .ensures) ∙ at-if1 .if1 .taken)) _ _ _ (at-node .node .ensures) (at-node .node .kept .1 .1 .1 .0) (at-node .node .kept .1 .1 .1 .1 .0), at-node .node .kept .1 .1 .1 .1 .1 .0 ∙ at-loop .loop .inv .1)
+      (climb-go _ _ _ _ _ _ _ _ _ (S .pre .1 .0 .0) (S .pre .1 .1) _ (at-descend .descend .ensures) _ _ _ (at-simple .simple .kept .1 .1 .1 .0) (at-simple .simple .kept .1 .1 .1 .1 .0) _ _ _ _ (at-loop .loop .inv .0) (at-loop-test .loop-test .taken) _ (at-spine-at .spine-at .ensures) _ (at-line-at .line-at .ensures) _ (goes-yes _ _ _ _ _ (sym (at-goes-right .goes-right .ensures) ∙ at-if1 .if1 .taken)) _ _ _ (at-node .node .ensures) (at-node .node .kept .1 .1 .1 .0) (at-node .node .kept .1 .1 .1 .1 .0), at-node .node .kept .1 .1 .1 .1 .1 .0 ∙ at-loop .loop .inv .1)
 
   loop-less-2 : left-side-lts.Need-loop-less-2 (left-side-calls t) (left-side-at t) left-side.Post Inv-loop μ-loop
   loop-less-2 c =
@@ -102,7 +102,7 @@ module _ (t : ℕ) where
       let at-simple = c .before .before .before .before .before .before .before .before .before .before .before .before in
       let at-descend = c .before .before .before .before .before .before .before .before .before .before .before .before .before .before .before .before in
       let S = c .before .before .before .before .before .before .before .before .before .before .before .before .before .before .before .before .before .before .before .before .before .before in
-      (climb-stay _ _ _ _ _ _ _ _ _ (S .pre .1 .0 .0) (S .pre .1 .1 .0) _ (at-descend .descend .ensures) _ _ _ (at-simple .simple .kept .1 .1 .1 .0) (at-simple .simple .kept .1 .1 .1 .1 .0) _ _ _ _ (at-loop .loop .inv .0) (at-loop-test .loop-test .taken) _ (at-spine-at .spine-at .ensures) _ (c .before .before .line-at .ensures) (goes-no _ _ _ _ _ (sym (c .before .goes-right .ensures) ∙ c .if1 .left)), at-loop .loop .inv .1)
+      (climb-stay _ _ _ _ _ _ _ _ _ (S .pre .1 .0 .0) (S .pre .1 .1) _ (at-descend .descend .ensures) _ _ _ (at-simple .simple .kept .1 .1 .1 .0) (at-simple .simple .kept .1 .1 .1 .1 .0) _ _ _ _ (at-loop .loop .inv .0) (at-loop-test .loop-test .taken) _ (at-spine-at .spine-at .ensures) _ (c .before .before .line-at .ensures) (goes-no _ _ _ _ _ (sym (c .before .goes-right .ensures) ∙ c .if1 .left)), at-loop .loop .inv .1)
 
   same-length : left-side-lts.Need-same-length (left-side-calls t) (left-side-at t) left-side.Post Inv-loop μ-loop
   same-length c =
@@ -124,7 +124,7 @@ module _ (t : ℕ) where
       let at-simple = c .before .before .before .before .before .before .before .before in
       let at-descend = c .before .before .before .before .before .before .before .before .before .before .before .before in
       let S = c .before .before .before .before .before .before .before .before .before .before .before .before .before .before .before .before .before .before in
-      climbed _ _ _ _ _ _ _ _ _ (S .pre .1 .0 .0) (S .pre .1 .1 .0) _ (at-descend .descend .ensures) _ _ _ (at-simple .simple .kept .1 .1 .1 .0) (at-simple .simple .kept .1 .1 .1 .1 .0) _ _ _ _ (c .before .loop .inv .0) (omega (arith, c .loop-test .left)) (at-simple .simple .ensures)
+      climbed _ _ _ _ _ _ _ _ _ (S .pre .1 .0 .0) (S .pre .1 .1) _ (at-descend .descend .ensures) _ _ _ (at-simple .simple .kept .1 .1 .1 .0) (at-simple .simple .kept .1 .1 .1 .1 .0) _ _ _ _ (c .before .loop .inv .0) (omega (arith, c .loop-test .left)) (at-simple .simple .ensures)
 
 pub left-side-closed : {M : Type 1} → (t : ℕ) → left-side-lts.Closed (left-side-calls t) (left-side-at t) left-side.Post M
 left-side-closed t =

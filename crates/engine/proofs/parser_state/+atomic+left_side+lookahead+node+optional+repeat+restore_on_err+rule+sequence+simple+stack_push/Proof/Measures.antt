@@ -61,7 +61,6 @@ use Rattle.engine.proofs.rule.start_rule.Reads as start-rule-reads
 use Rattle.engine.proofs.spine.descend.Reads as descend-reads
 use Rattle.engine.proofs.spine.ended.Reads as ended-reads
 use Rattle.engine.proofs.spine.goes_right.Reads as goes-right-reads
-use Rattle.engine.proofs.spine.is_fork.Reads as is-fork-reads
 use Rattle.engine.proofs.spine.spine_at.Reads as spine-at-reads
 use Rattle.engine.proofs.stack_state.checkpoint.Reads as checkpoint-reads
 use Prim.Native.Nat.{ℕ, _+_, _*_, _<_}
@@ -191,7 +190,7 @@ abbrev pub lookahead-calls : ℕ → lookahead-lts.Claims
 lookahead-calls t = (line-at-reads.Asked, line-at-reads.Learnt, enter-reads.Asked, enter-reads.Learnt, position-reads.Asked, position-reads.Learnt, lookahead-reads.Asked, lookahead-reads.Learnt, lookahead-in-reads.Asked, lookahead-in-reads.Learnt, set-lookahead-reads.Asked, set-lookahead-reads.Learnt, checkpoint-reads.Asked, checkpoint-reads.Learnt, node-below t, node.Post, lookahead-end-reads.Asked, lookahead-end-reads.Learnt)
 
 abbrev pub node-calls : ℕ → node-lts.Claims
-node-calls t = (position-reads.Asked, position-reads.Learnt, walk-reads.Asked, walk-reads.Learnt, set-position-reads.Asked, set-position-reads.Learnt, ended-reads.Asked, ended-reads.Learnt, line-at-reads.Asked, line-at-reads.Learnt, is-fork-reads.Asked, is-fork-reads.Learnt, simple-below t, simple.Post, left-side-below t, left-side.Post, goes-right-reads.Asked, goes-right-reads.Learnt)
+node-calls t = (position-reads.Asked, position-reads.Learnt, walk-reads.Asked, walk-reads.Learnt, set-position-reads.Asked, set-position-reads.Learnt, ended-reads.Asked, ended-reads.Learnt, line-at-reads.Asked, line-at-reads.Learnt, left-side-below t, left-side.Post, goes-right-reads.Asked, goes-right-reads.Learnt)
 
 abbrev pub optional-calls : ℕ → optional-lts.Claims
 optional-calls t = (line-at-reads.Asked, line-at-reads.Learnt, enter-reads.Asked, enter-reads.Learnt, node-below t, node.Post, optional-end-reads.Asked, optional-end-reads.Learnt)

@@ -9,14 +9,15 @@ use native.Mathlib.Omega.{arith}
 use lib.ListN.{length}
 use Rattle.engine.specs.Fields.{fields}
 use Rattle.engine.specs.Areas.{view, view-end}
-use Rattle.engine.specs.Areas.{view-end}
 use Rattle.engine.proofs.Steps.{tests, wide-on}
-use Rattle.engine.proofs.LineSteps.{whole, fork-at, no-fork-at}
-use Rattle.engine.proofs.Climbs.{goes-yes, goes-no}
+use Rattle.engine.proofs.LineSteps.{whole, fork-at}
+use Rattle.engine.proofs.Climbs.{goes-yes, goes-no, goes-fork}
 use Rattle.engine.proofs.Walks.{Walking, first-walk, top-in, top-stay, top-go}
 use Rattle.engine.proofs.LeafSteps.{walk-on, answers}
 use mathlib.Core.Path.{subst}
+use Rattle.reading.specs.Grammar.{kind-at}
 use Rattle.reading.specs.Pest as Pest
+use Rattle.engine.specs.Spine.{Fork}
 use Rattle.engine.specs.Leaves.{Walked, answer}
 use Rattle.engine.proofs.Steps.{placed, refused-test, passed-test}
 
@@ -116,107 +117,68 @@ module _ (t : ℕ) where
       let S = c .before .before .before .before .before .before .before .before .before .before .before .before .before .before .before in
       whole _ _ (tests _ _ _ _ (S .pre .1 .0 .0)) _ ((on c) .here)
 
-  is-fork-requires : node-lts.Need-is-fork-requires (node-calls t) (node-at t) node.Post Inv-loop μ-loop
-  is-fork-requires c κs = search needs
-
-  simple-requires : node-lts.Need-simple-requires (node-calls t) (node-at t) node.Post Inv-loop μ-loop
-  simple-requires c κs =
-      let at-if2 = c .before .before .before in
-      let at-is-fork = c .before .before .before .before in
-      let at-line-at = c .before .before .before .before .before in
-      let at-if1 = c .before .before .before .before .before .before in
-      let at-set-position = c .before .before .before .before .before .before .before .before .before in
-      let at-loop = c .before .before .before .before .before .before .before .before .before .before .before .before .before .before .before in
-      let S = c .before .before .before .before .before .before .before .before .before .before .before .before .before .before .before .before .before .before .before .before .before in
-      (omega (arith, S .pre .0, (on at-if1) .upto), (((on at-if1) .ready, (wide-on (wide-on (S .pre .1 .0 .1) (at-loop .loop .inv .1)) (at-set-position .set-position .kept .0))), ((on at-if1) .here, no-fork-at _ _ _ (at-line-at .line-at .ensures) (at-is-fork .is-fork .ensures .1 (refused-test (at-is-fork .is-fork .result) (at-if2 .if2 .taken))))))
-
-  same-length-4 : node-lts.Need-same-length-4 (node-calls t) (node-at t) node.Post Inv-loop μ-loop
-  same-length-4 c =
-      let at-simple = c .before .before .before .before .before .before in
-      let at-loop = c .before .before .before .before .before .before .before .before .before .before .before .before .before .before .before .before .before .before .before .before .before .before in
-      at-simple .simple .kept .1 .1 .1 .0 ∙ at-loop .loop .inv .0 .tokens-same
-
-  same-length-5 : node-lts.Need-same-length-5 (node-calls t) (node-at t) node.Post Inv-loop μ-loop
-  same-length-5 c =
-      let at-simple = c .before .before .before .before .before .before in
-      let at-loop = c .before .before .before .before .before .before .before .before .before .before .before .before .before .before .before .before .before .before .before .before .before .before in
-      at-simple .simple .kept .1 .1 .1 .1 .0 ∙ at-loop .loop .inv .0 .scratch-same
-
-  same-length-6 : node-lts.Need-same-length-6 (node-calls t) (node-at t) node.Post Inv-loop μ-loop
-  same-length-6 c =
-      let at-simple = c .before .before .before .before .before .before in
-      let at-set-position = c .before .before .before .before .before .before .before .before .before .before .before .before .before .before .before .before in
-      let at-loop = c .before .before .before .before .before .before .before .before .before .before .before .before .before .before .before .before .before .before .before .before .before .before in
-      at-simple .simple .kept .1 .1 .1 .1 .1 .0 ∙ at-set-position .set-position .kept .0 ∙ at-loop .loop .inv .1
-
-  returns-2 : node-lts.Need-returns-2 (node-calls t) (node-at t) node.Post Inv-loop μ-loop
-  returns-2 c =
-      let at-simple = c .before .before .before .before .before .before in
-      let at-if1 = c .before .before .before .before .before .before .before .before .before .before .before .before .before in
-      at-simple .simple .ensures ∙ (on at-if1) .runs
-
   left-side-requires : node-lts.Need-left-side-requires (node-calls t) (node-at t) node.Post Inv-loop μ-loop
   left-side-requires c κs =
-      let at-if2 = c .before .before .before in
-      let at-is-fork = c .before .before .before .before in
-      let at-line-at = c .before .before .before .before .before in
-      let at-if1 = c .before .before .before .before .before .before in
-      let at-set-position = c .before .before .before .before .before .before .before .before .before in
-      let at-loop = c .before .before .before .before .before .before .before .before .before .before .before .before .before .before .before in
-      let S = c .before .before .before .before .before .before .before .before .before .before .before .before .before .before .before .before .before .before .before .before .before in
-      (omega (arith, S .pre .0, (on at-if1) .upto), (((on at-if1) .ready, (wide-on (wide-on (S .pre .1 .0 .1) (at-loop .loop .inv .1)) (at-set-position .set-position .kept .0))), ((on at-if1) .here, (fork-at _ _ _ (at-line-at .line-at .ensures) (at-is-fork .is-fork .ensures .0 (passed-test (at-is-fork .is-fork .result) (at-if2 .if2 .left)))))))
+      let at-if1 = c .before .before .before .before in
+      let at-set-position = c .before .before .before .before .before .before .before in
+      let at-loop = c .before .before .before .before .before .before .before .before .before .before .before .before .before in
+      let S = c .before .before .before .before .before .before .before .before .before .before .before .before .before .before .before .before .before .before .before in
+      (omega (arith, S .pre .0, (on at-if1) .upto), (((on at-if1) .ready, (wide-on (wide-on (S .pre .1 .0 .1) (at-loop .loop .inv .1)) (at-set-position .set-position .kept .0))), (on at-if1) .here))
 
   goes-right-requires : node-lts.Need-goes-right-requires (node-calls t) (node-at t) node.Post Inv-loop μ-loop
   goes-right-requires c κs = search needs
 
-  same-length-7 : node-lts.Need-same-length-7 (node-calls t) (node-at t) node.Post Inv-loop μ-loop
-  same-length-7 c =
+  same-length-4 : node-lts.Need-same-length-4 (node-calls t) (node-at t) node.Post Inv-loop μ-loop
+  same-length-4 c =
       let at-left-side = c .before .before .before .before .before .before .before .before in
-      let at-loop = c .before .before .before .before .before .before .before .before .before .before .before .before .before .before .before .before .before .before .before .before .before .before .before .before in
+      let at-loop = c .before .before .before .before .before .before .before .before .before .before .before .before .before .before .before .before .before .before .before .before .before .before in
       at-left-side .left-side .kept .1 .1 .1 .0 ∙ at-loop .loop .inv .0 .tokens-same
 
-  same-length-8 : node-lts.Need-same-length-8 (node-calls t) (node-at t) node.Post Inv-loop μ-loop
-  same-length-8 c =
+  same-length-5 : node-lts.Need-same-length-5 (node-calls t) (node-at t) node.Post Inv-loop μ-loop
+  same-length-5 c =
       let at-left-side = c .before .before .before .before .before .before .before .before in
-      let at-loop = c .before .before .before .before .before .before .before .before .before .before .before .before .before .before .before .before .before .before .before .before .before .before .before .before in
+      let at-loop = c .before .before .before .before .before .before .before .before .before .before .before .before .before .before .before .before .before .before .before .before .before .before in
       at-left-side .left-side .kept .1 .1 .1 .1 .0 ∙ at-loop .loop .inv .0 .scratch-same
 
-  same-length-9 : node-lts.Need-same-length-9 (node-calls t) (node-at t) node.Post Inv-loop μ-loop
-  same-length-9 c =
+  same-length-6 : node-lts.Need-same-length-6 (node-calls t) (node-at t) node.Post Inv-loop μ-loop
+  same-length-6 c =
       let at-left-side = c .before .before .before .before .before .before .before .before in
-      let at-set-position = c .before .before .before .before .before .before .before .before .before .before .before .before .before .before .before .before .before .before in
-      let at-loop = c .before .before .before .before .before .before .before .before .before .before .before .before .before .before .before .before .before .before .before .before .before .before .before .before in
+      let at-set-position = c .before .before .before .before .before .before .before .before .before .before .before .before .before .before .before .before in
+      let at-loop = c .before .before .before .before .before .before .before .before .before .before .before .before .before .before .before .before .before .before .before .before .before .before in
       at-left-side .left-side .kept .1 .1 .1 .1 .1 .0 ∙ at-set-position .set-position .kept .0 ∙ at-loop .loop .inv .1
 
-  returns-3 : node-lts.Need-returns-3 (node-calls t) (node-at t) node.Post Inv-loop μ-loop
-  returns-3 c =
+  returns-2 : node-lts.Need-returns-2 (node-calls t) (node-at t) node.Post Inv-loop μ-loop
+  returns-2 c =
       let at-left-side = c .before .before .before .before .before .before .before .before in
-      let at-if2 = c .before .before .before .before .before .before .before .before .before .before .before .before in
-      let at-is-fork = c .before .before .before .before .before .before .before .before .before .before .before .before .before in
-      let at-line-at = c .before .before .before .before .before .before .before .before .before .before .before .before .before .before in
-      let at-if1 = c .before .before .before .before .before .before .before .before .before .before .before .before .before .before .before in
-      top-stay _ _ _ _ _ _ _ _ _ ((on at-if1) .ready) ((on at-if1) .here) (fork-at _ _ _ (at-line-at .line-at .ensures) (at-is-fork .is-fork .ensures .0 (passed-test (at-is-fork .is-fork .result) (at-if2 .if2 .left)))) (at-left-side .left-side .last .1 .1 .1 .0) (at-left-side .left-side .last .1 .1 .1 .1 .0) (at-left-side .left-side .kept .1 .1 .1 .0) (at-left-side .left-side .kept .1 .1 .1 .1 .0) _ (at-left-side .left-side .ensures) _ (at-line-at .line-at .ensures) (goes-no _ _ _ _ _ (sym (c .before .goes-right .ensures) ∙ refused-test (c .before .goes-right .result) (c .if3 .taken))) ∙ (on at-if1) .runs
+      let at-line-at = c .before .before .before .before .before .before .before .before .before .before .before .before in
+      let at-if1 = c .before .before .before .before .before .before .before .before .before .before .before .before .before in
+      top-stay _ _ _ _ _ _ _ _ _ ((on at-if1) .ready) ((on at-if1) .here) (at-left-side .left-side .last .1 .1 .1 .0) (at-left-side .left-side .last .1 .1 .1 .1 .0) (at-left-side .left-side .kept .1 .1 .1 .0) (at-left-side .left-side .kept .1 .1 .1 .1 .0) _ (at-left-side .left-side .ensures) _ (at-line-at .line-at .ensures) (goes-no _ _ _ _ _ (sym (c .before .goes-right .ensures) ∙ refused-test (c .before .goes-right .result) (c .if2 .taken))) ∙ (on at-if1) .runs
+
+  -- A line whose right side is due is a fork.
+  is-fork : (c : node-lts.Else2 (node-calls t) (node-at t) node.Post Inv-loop μ-loop) →
+      let at-walk = c .before .before .before .before .before .before .before .before .before .before .before .before .before .before .before .before .before .before .before in
+      let S = c .before .before .before .before .before .before .before .before .before .before .before .before .before .before .before .before .before .before .before .before .before .before .before .before .before .before .before .before in
+      Fork (kind-at (S .args .nodes .now) (at-walk .walk .result .line))
+  is-fork c =
+      let at-line-at = c .before .before .before .before .before .before .before .before .before .before .before .before in
+      fork-at _ _ _ (at-line-at .line-at .ensures) (goes-fork _ _ (sym (c .before .goes-right .ensures) ∙ passed-test (c .before .goes-right .result) (c .if2 .left)))
 
   loop-less : node-lts.Need-loop-less (node-calls t) (node-at t) node.Post Inv-loop μ-loop
   loop-less c =
       let at-left-side = c .before .before .before .before .before .before .before .before in
-      let at-if2 = c .before .before .before .before .before .before .before .before .before .before .before .before in
-      let at-is-fork = c .before .before .before .before .before .before .before .before .before .before .before .before .before in
-      let at-line-at = c .before .before .before .before .before .before .before .before .before .before .before .before .before .before in
-      let at-if1 = c .before .before .before .before .before .before .before .before .before .before .before .before .before .before .before in
-      let at-set-position = c .before .before .before .before .before .before .before .before .before .before .before .before .before .before .before .before .before .before in
-      omega (arith, top-in _ _ _ _ _ _ _ _ _ ((on at-if1) .ready) ((on at-if1) .here) (fork-at _ _ _ (at-line-at .line-at .ensures) (at-is-fork .is-fork .ensures .0 (passed-test (at-is-fork .is-fork .result) (at-if2 .if2 .left)))) (at-left-side .left-side .last .1 .1 .1 .0) (at-left-side .left-side .last .1 .1 .1 .1 .0) (at-left-side .left-side .kept .1 .1 .1 .0) (at-left-side .left-side .kept .1 .1 .1 .1 .0) _ (at-left-side .left-side .ensures) _ (at-line-at .line-at .ensures) .1, walked at-set-position .going (at-if1 .if1 .left) .upto)
+      let at-line-at = c .before .before .before .before .before .before .before .before .before .before .before .before in
+      let at-if1 = c .before .before .before .before .before .before .before .before .before .before .before .before .before in
+      let at-set-position = c .before .before .before .before .before .before .before .before .before .before .before .before .before .before .before .before in
+      omega (arith, top-in _ _ _ _ _ _ _ _ _ ((on at-if1) .ready) ((on at-if1) .here) (is-fork c) (at-left-side .left-side .last .1 .1 .1 .0) (at-left-side .left-side .last .1 .1 .1 .1 .0) (at-left-side .left-side .kept .1 .1 .1 .0) (at-left-side .left-side .kept .1 .1 .1 .1 .0) _ (at-left-side .left-side .ensures) _ (at-line-at .line-at .ensures) .1, walked at-set-position .going (at-if1 .if1 .left) .upto)
 
   loop-again : node-lts.Need-loop-again (node-calls t) (node-at t) node.Post Inv-loop μ-loop
   loop-again c =
       let at-left-side = c .before .before .before .before .before .before .before .before in
-      let at-if2 = c .before .before .before .before .before .before .before .before .before .before .before .before in
-      let at-is-fork = c .before .before .before .before .before .before .before .before .before .before .before .before .before in
-      let at-line-at = c .before .before .before .before .before .before .before .before .before .before .before .before .before .before in
-      let at-if1 = c .before .before .before .before .before .before .before .before .before .before .before .before .before .before .before in
-      let at-set-position = c .before .before .before .before .before .before .before .before .before .before .before .before .before .before .before .before .before .before in
-      let at-loop = c .before .before .before .before .before .before .before .before .before .before .before .before .before .before .before .before .before .before .before .before .before .before .before .before in
-      (top-go _ _ _ _ _ _ _ _ _ ((on at-if1) .ready) ((on at-if1) .here) (fork-at _ _ _ (at-line-at .line-at .ensures) (at-is-fork .is-fork .ensures .0 (passed-test (at-is-fork .is-fork .result) (at-if2 .if2 .left)))) (at-left-side .left-side .last .1 .1 .1 .0) (at-left-side .left-side .last .1 .1 .1 .1 .0) (at-left-side .left-side .kept .1 .1 .1 .0) (at-left-side .left-side .kept .1 .1 .1 .1 .0) _ (at-left-side .left-side .ensures) _ (at-line-at .line-at .ensures) _ _ _ _ (on at-if1) _ (goes-yes _ _ _ _ _ (sym (c .before .goes-right .ensures) ∙ passed-test (c .before .goes-right .result) (c .if3 .left))), at-left-side .left-side .kept .1 .1 .1 .1 .1 .0 ∙ at-set-position .set-position .kept .0 ∙ at-loop .loop .inv .1)
+      let at-line-at = c .before .before .before .before .before .before .before .before .before .before .before .before in
+      let at-if1 = c .before .before .before .before .before .before .before .before .before .before .before .before .before in
+      let at-set-position = c .before .before .before .before .before .before .before .before .before .before .before .before .before .before .before .before in
+      let at-loop = c .before .before .before .before .before .before .before .before .before .before .before .before .before .before .before .before .before .before .before .before .before .before in
+      (top-go _ _ _ _ _ _ _ _ _ ((on at-if1) .ready) ((on at-if1) .here) (is-fork c) (at-left-side .left-side .last .1 .1 .1 .0) (at-left-side .left-side .last .1 .1 .1 .1 .0) (at-left-side .left-side .kept .1 .1 .1 .0) (at-left-side .left-side .kept .1 .1 .1 .1 .0) _ (at-left-side .left-side .ensures) _ (at-line-at .line-at .ensures) _ _ _ _ (on at-if1) _ (goes-yes _ _ _ _ _ (sym (c .before .goes-right .ensures) ∙ passed-test (c .before .goes-right .result) (c .if2 .left))), at-left-side .left-side .kept .1 .1 .1 .1 .1 .0 ∙ at-set-position .set-position .kept .0 ∙ at-loop .loop .inv .1)
 
 pub node-closed : {M : Type 1} → (t : ℕ) → node-lts.Closed (node-calls t) (node-at t) node.Post M
 node-closed t =
@@ -231,17 +193,11 @@ node-closed t =
     (same-length-3 t)
     (returns t)
     (line-at-requires t)
-    (is-fork-requires t)
-    (simple-requires t)
+    (left-side-requires t)
+    (goes-right-requires t)
     (same-length-4 t)
     (same-length-5 t)
     (same-length-6 t)
     (returns-2 t)
-    (left-side-requires t)
-    (goes-right-requires t)
-    (same-length-7 t)
-    (same-length-8 t)
-    (same-length-9 t)
-    (returns-3 t)
     (loop-less t)
     (loop-again t)
