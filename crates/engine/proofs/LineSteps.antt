@@ -2,6 +2,7 @@
 -- each kind; `n` is the line as read.
 use mathlib.Core.Path.{_≡_, refl, sym, ap, subst, _∙_}
 use mathlib.Core.Bool.{true, false}
+use mathlib.Core.Logic.{_⊎_, inl, inr}
 use mathlib.Core.List.{List}
 use Prim.Native.Nat.{ℕ, zero, suc, _+_, _*_, _≤_}
 use native.Mathlib.Omega.{arith}
@@ -9,13 +10,13 @@ use native.Mathlib.Decide.{decLe}
 use lib.Dec.{eqb}
 use lib.IntN.{ℤ}
 use lib.ListN.{length}
-use borrow.Author.Tests.{ne-eqb}
+use borrow.Author.Tests.{eq-eqb, ne-eqb}
 use Rattle.matching.specs.Utf8.{within}
 use Rattle.matching.proofs.Lead as Lead
 use Rattle.engine.specs.declared.node.Line as Read
 use Rattle.reading.specs.declared.parser_state.Atomicity.{Atomicity}
 use Rattle.reading.specs.declared.parser_state.Atomicity.the-variants.{NonAtomic}
-use Rattle.reading.specs.Ending.{Ending}
+use Rattle.reading.specs.Ending.{if_then_else_, Ending}
 use Rattle.reading.specs.Grammar as Grammar
 use Rattle.reading.specs.Grammar.{Exp, node-at, natural, kind-at, tree-at, atomicity-of}
 use Rattle.reading.specs.Nullable.{nullable}
@@ -132,27 +133,55 @@ call-is ns literals text capacity d a m = go d
     go (suc d) = refl
 
 module _ (ns : List ℤ) (literals : List ℕ) (w : Accepted ns literals) (l : ℕ) (i : Line ns l) (n : Read.Line) (e : n ≡ line-of (node-at ns l)) where
-  pub call-runs : (text : List ℕ) (capacity d : ℕ) (m : ParserState) (r : Ending ParserState) → kind-at ns l ≡ 20 → r ≡ evaluated ns literals text capacity d (tree-at ns literals (n .a)) m → r ≡ evaluated ns literals text capacity d (tree-at ns literals l) m
+  call-runs : (text : List ℕ) (capacity d : ℕ) (m : ParserState) (r : Ending ParserState) → kind-at ns l ≡ 20 → r ≡ evaluated ns literals text capacity d (tree-at ns literals (n .a)) m → r ≡ evaluated ns literals text capacity d (tree-at ns literals l) m
   call-runs text capacity d m r q f =
       let v : Line ns (n .a) × (kind-at ns (n .a) ≡ 8) = called-line ns literals w l i n e q in
       by-tree ns literals text capacity d _ _ m r (at-20 ns literals w l i n e q)
       (f ∙ ap (λ (x : Exp). evaluated ns literals text capacity d x m) (at-8 ns literals w (n .a) (v .0) (line-of (node-at ns (n .a))) refl (v .1) .2) ∙ call-is ns literals text capacity d (n .a) m)
 
+  -- A line of kind 8 or 20, by the line of its rule.
+  module _ (k : (n .kind ≡ 8) ⊎ (n .kind ≡ 20)) (v : ℕ) (h : v ≡ (if eqb (n .kind) 20 then n .a else l)) where
+    itself : n .kind ≡ 8 → v ≡ l
+    itself q = h ∙ rw (ne-eqb (n .kind) 20 (λ z. omega arith))
+
+    named : n .kind ≡ 20 → v ≡ n .a
+    named q = h ∙ rw (eq-eqb (n .kind) 20 q)
+
+    pub rule-line : Line ns v × (kind-at ns v ≡ 8)
+    rule-line = go k
+      where
+        go : (n .kind ≡ 8) ⊎ (n .kind ≡ 20) → Line ns v × (kind-at ns v ≡ 8)
+        go (inl q) = subst (λ (x : ℕ). Line ns x × (kind-at ns x ≡ 8)) (sym (itself q)) (i, kind-of ns literals w l i n e 8 q)
+        go (inr q) = subst (λ (x : ℕ). Line ns x × (kind-at ns x ≡ 8)) (sym (named q)) (called-line ns literals w l i n e (kind-of ns literals w l i n e 20 q))
+
+    pub rule-runs : (text : List ℕ) (capacity d : ℕ) (m : ParserState) (r : Ending ParserState) → r ≡ evaluated ns literals text capacity d (tree-at ns literals v) m → r ≡ evaluated ns literals text capacity d (tree-at ns literals l) m
+    rule-runs text capacity d m r f = go k
+      where
+        at : (x : ℕ) → v ≡ x → r ≡ evaluated ns literals text capacity d (tree-at ns literals x) m
+        at x q = f ∙ ap (λ (y : ℕ). evaluated ns literals text capacity d (tree-at ns literals y) m) q
+
+        go : (n .kind ≡ 8) ⊎ (n .kind ≡ 20) → r ≡ evaluated ns literals text capacity d (tree-at ns literals l) m
+        go (inl q) = at l (itself q)
+        go (inr q) = call-runs text capacity d m r (kind-of ns literals w l i n e 20 q) (at (n .a) (named q))
+
   -- Where all kinds that open a call are excluded, as the code's match has it, none is opened.
-  pub none-opened : ((((((((Unit {0} × (n .kind ≡ 8 → ⊥)) × (n .kind ≡ 9 → ⊥)) × (n .kind ≡ 10 → ⊥)) × (n .kind ≡ 11 → ⊥)) × (n .kind ≡ 12 → ⊥)) × (n .kind ≡ 13 → ⊥)) × (n .kind ≡ 14 → ⊥)) × (n .kind ≡ 18 → ⊥)) × (n .kind ≡ 20 → ⊥)
+  pub none-opened : (((((((Unit {0} × ((n .kind ≡ 8) ⊎ (n .kind ≡ 20) → ⊥)) × (n .kind ≡ 9 → ⊥)) × (n .kind ≡ 10 → ⊥)) × (n .kind ≡ 11 → ⊥)) × (n .kind ≡ 12 → ⊥)) × (n .kind ≡ 13 → ⊥)) × (n .kind ≡ 14 → ⊥)) × (n .kind ≡ 18 → ⊥)
       → opens-call (kind-at ns l) ≡ false
   none-opened r = ap (λ (x : Read.Line). opens-call (x .kind)) (sym e) ∙ go (decLe 8 (n .kind)) (decLe (n .kind) 14)
     where
       k : ℕ
       k = n .kind
 
+      no-rule : (k ≡ 8) ⊎ (k ≡ 20) → ⊥
+      no-rule = r .0 .0 .0 .0 .0 .0 .0 .1
+
       rest : within 8 14 k ≡ false → opens-call k ≡ false
-      rest f = rw (f, ne-eqb k 18 (r .0 .1), ne-eqb k 20 (r .1))
+      rest f = rw (f, ne-eqb k 18 (r .1), ne-eqb k 20 (λ q. no-rule (inr q)))
 
       mid : 8 ≤ k → k ≤ 14 → Dec (k ≤ 10) → Dec (k ≤ 13) → ⊥
-      mid lo hi (yes h) q = three 8 k lo h (r .0 .0 .0 .0 .0 .0 .0 .0 .1) (r .0 .0 .0 .0 .0 .0 .0 .1) (r .0 .0 .0 .0 .0 .0 .1)
-      mid lo hi (no h) (yes q) = three 11 k (below k h) q (r .0 .0 .0 .0 .0 .1) (r .0 .0 .0 .0 .1) (r .0 .0 .0 .1)
-      mid lo hi (no h) (no q) = r .0 .0 .1 (last k hi q)
+      mid lo hi (yes h) q = three 8 k lo h (λ x. no-rule (inl x)) (r .0 .0 .0 .0 .0 .0 .1) (r .0 .0 .0 .0 .0 .1)
+      mid lo hi (no h) (yes q) = three 11 k (below k h) q (r .0 .0 .0 .0 .1) (r .0 .0 .0 .1) (r .0 .0 .1)
+      mid lo hi (no h) (no q) = r .0 .1 (last k hi q)
 
       go : Dec (8 ≤ k) → Dec (k ≤ 14) → opens-call k ≡ false
       go (no a) b = rest (Lead.below 8 14 k (omega arith))

@@ -37,6 +37,8 @@ ghost use mathlib.Core.Path.{_≡_};
 ghost use mathlib.Core.Bool.{true, false};
 ghost use Prim.Native.Nat.{_≤_};
 ghost use lib.ListN.{length};
+ghost use lib.Dec.{eqb};
+ghost use Rattle.reading.specs.Ending.{if_then_else_};
 ghost use Rattle.reading.specs.Grammar.{kind-at, tree-at, atomicity-of};
 ghost use Rattle.reading.specs.Pest as Pest;
 ghost use Rattle.engine.specs.Fields.{state-size, fields};
@@ -79,6 +81,13 @@ fn lookahead_in(positive: bool, l: Lookahead) -> Lookahead
             Lookahead::None => Lookahead::Negative,
         }
     }
+}
+
+// The line of the rule that a line of kind 8 or 20 evaluates: "A call is its line."
+fn rule_line(kind: usize, a: usize, line: usize) -> usize
+    ensures { λ r. ⌜ r ≡ (if eqb kind 20 then a else line) ⌝ }
+{
+    if kind == 20 { a } else { line }
 }
 
 // A line that opens no call and is no fork.
@@ -214,7 +223,10 @@ fn simple<'a>(
     let n = line_at(nodes, line);
     let kind = n.kind;
     match kind {
-        8 => rule(nodes, literals, text, tokens, scratch, s, room, depth, line),
+        8 | 20 => {
+            let at = rule_line(kind, n.a, line);
+            rule(nodes, literals, text, tokens, scratch, s, room, depth, at)
+        }
         9 => sequence(nodes, literals, text, tokens, scratch, s, room, depth, line),
         10 => repeat(nodes, literals, text, tokens, scratch, s, room, depth, line),
         11 => optional(nodes, literals, text, tokens, scratch, s, room, depth, line),
@@ -222,7 +234,6 @@ fn simple<'a>(
         13 => atomic(nodes, literals, text, tokens, scratch, s, room, depth, line),
         14 => stack_push(nodes, literals, text, tokens, scratch, s, room, depth, line),
         18 => restore_on_err(nodes, literals, text, tokens, scratch, s, room, depth, line),
-        20 => rule(nodes, literals, text, tokens, scratch, s, room, depth, n.a),
         _ => terminal(nodes, literals, text, tokens, scratch, s, room, depth, line),
     }
 }

@@ -56,6 +56,7 @@ use Rattle.engine.proofs.leaves.walk.Reads as walk-reads
 use Rattle.engine.proofs.node.line_at.Reads as line-at-reads
 use Rattle.engine.proofs.parser_state.atomicity_of.Reads as atomicity-of-reads
 use Rattle.engine.proofs.parser_state.lookahead_in.Reads as lookahead-in-reads
+use Rattle.engine.proofs.parser_state.rule_line.Reads as rule-line-reads
 use Rattle.engine.proofs.parser_state.terminal.Reads as terminal-reads
 use Rattle.engine.proofs.rule.start_rule.Reads as start-rule-reads
 use Rattle.engine.proofs.spine.descend.Reads as descend-reads
@@ -208,7 +209,7 @@ abbrev pub sequence-calls : ℕ → sequence-lts.Claims
 sequence-calls t = (line-at-reads.Asked, line-at-reads.Learnt, enter-reads.Asked, enter-reads.Learnt, position-reads.Asked, position-reads.Learnt, queue-reads.Asked, queue-reads.Learnt, checkpoint-reads.Asked, checkpoint-reads.Learnt, node-below t, node.Post, sequence-end-reads.Asked, sequence-end-reads.Learnt)
 
 abbrev pub simple-calls : ℕ → simple-lts.Claims
-simple-calls t = (line-at-reads.Asked, line-at-reads.Learnt, rule-below t, rule.Post, sequence-below t, sequence.Post, repeat-below t, repeat.Post, optional-below t, optional.Post, lookahead-below t, lookahead.Post, atomic-below t, atomic.Post, stack-push-below t, stack-push.Post, restore-on-err-below t, restore-on-err.Post, terminal-reads.Asked, terminal-reads.Learnt)
+simple-calls t = (line-at-reads.Asked, line-at-reads.Learnt, rule-line-reads.Asked, rule-line-reads.Learnt, rule-below t, rule.Post, sequence-below t, sequence.Post, repeat-below t, repeat.Post, optional-below t, optional.Post, lookahead-below t, lookahead.Post, atomic-below t, atomic.Post, stack-push-below t, stack-push.Post, restore-on-err-below t, restore-on-err.Post, terminal-reads.Asked, terminal-reads.Learnt)
 
 abbrev pub stack-push-calls : ℕ → stack-push-lts.Claims
 stack-push-calls t = (line-at-reads.Asked, line-at-reads.Learnt, enter-reads.Asked, enter-reads.Learnt, position-reads.Asked, position-reads.Learnt, node-below t, node.Post, push-end-reads.Asked, push-end-reads.Learnt)

@@ -4,8 +4,9 @@ use Rattle.engine.proofs.parser_state.simple.Reads as simple
 use Rattle.engine.proofs.parser_state.+atomic+left_side+lookahead+node+optional+repeat+restore_on_err+rule+sequence+simple+stack_push.Lts-simple as simple-lts
 use Rattle.engine.proofs.parser_state.+atomic+left_side+lookahead+node+optional+repeat+restore_on_err+rule+sequence+simple+stack_push.Proof.Measures.{simple-at, simple-calls}
 use native.Mathlib.Omega.{arith}
+use borrow.Author.Needs.{needs}
 use Rattle.engine.proofs.Steps.{tests}
-use Rattle.engine.proofs.LineSteps.{whole, kind-of, called-line, call-runs, none-opened}
+use Rattle.engine.proofs.LineSteps.{whole, kind-of, rule-line, rule-runs, none-opened}
 
 module _ (t : ℕ) where
   line-at-requires : simple-lts.Need-line-at-requires (simple-calls t) (simple-at t) simple.Post
@@ -13,12 +14,16 @@ module _ (t : ℕ) where
       let S = c .before .before .before .before .before in
       whole _ _ (tests _ _ _ _ (S .pre .1 .0 .0)) _ (S .pre .1 .1 .0)
 
+  rule-line-requires : simple-lts.Need-rule-line-requires (simple-calls t) (simple-at t) simple.Post
+  rule-line-requires c κs = search needs
+
   rule-requires : simple-lts.Need-rule-requires (simple-calls t) (simple-at t) simple.Post
   rule-requires c κs =
-      let at-match = c .before .before .before in
-      let at-line-at = c .before .before .before .before in
-      let S = c .before .before .before .before .before .before .before .before .before .before in
-      (omega (arith, S .pre .0), (((S .pre .1 .0 .0), (S .pre .1 .0 .1)), ((S .pre .1 .1 .0), (kind-of _ _ (tests _ _ _ _ (S .pre .1 .0 .0)) _ (S .pre .1 .1 .0) _ (at-line-at .line-at .ensures) 8 (at-match .match .keys1)))))
+      let at-rule-line = c .before .before .before in
+      let at-match = c .before .before .before .before in
+      let at-line-at = c .before .before .before .before .before in
+      let S = c .before .before .before .before .before .before .before .before .before .before .before in
+      (omega (arith, S .pre .0), (((S .pre .1 .0 .0), (S .pre .1 .0 .1)), rule-line _ _ (tests _ _ _ _ (S .pre .1 .0 .0)) _ (S .pre .1 .1 .0) _ (at-line-at .line-at .ensures) (at-match .match .keys1) _ (at-rule-line .rule-line .ensures)))
 
   sequence-requires : simple-lts.Need-sequence-requires (simple-calls t) (simple-at t) simple.Post
   sequence-requires c κs =
@@ -69,13 +74,6 @@ module _ (t : ℕ) where
       let S = c .before .before .before .before .before .before .before .before .before .before in
       (omega (arith, S .pre .0), (((S .pre .1 .0 .0), (S .pre .1 .0 .1)), ((S .pre .1 .1 .0), (kind-of _ _ (tests _ _ _ _ (S .pre .1 .0 .0)) _ (S .pre .1 .1 .0) _ (at-line-at .line-at .ensures) 18 (at-match .match .keys8)))))
 
-  rule-requires-2 : simple-lts.Need-rule-requires-2 (simple-calls t) (simple-at t) simple.Post
-  rule-requires-2 c κs =
-      let at-match = c .before .before .before in
-      let at-line-at = c .before .before .before .before in
-      let S = c .before .before .before .before .before .before .before .before .before .before in
-      (omega (arith, S .pre .0), (((S .pre .1 .0 .0), (S .pre .1 .0 .1)), (called-line _ _ (tests _ _ _ _ (S .pre .1 .0 .0)) _ (S .pre .1 .1 .0) _ (at-line-at .line-at .ensures) (kind-of _ _ (tests _ _ _ _ (S .pre .1 .0 .0)) _ (S .pre .1 .1 .0) _ (at-line-at .line-at .ensures) 20 (at-match .match .keys9)))))
-
   terminal-requires : simple-lts.Need-terminal-requires (simple-calls t) (simple-at t) simple.Post
   terminal-requires c κs =
       let at-match = c .before .before .before in
@@ -101,7 +99,11 @@ module _ (t : ℕ) where
   returns : simple-lts.Need-returns (simple-calls t) (simple-at t) simple.Post
   returns c =
       let at-rule = c .before .before .before .before .before .before in
-      at-rule .rule .ensures
+      let at-rule-line = c .before .before .before .before .before .before .before .before .before .before in
+      let at-match = c .before .before .before .before .before .before .before .before .before .before .before in
+      let at-line-at = c .before .before .before .before .before .before .before .before .before .before .before .before in
+      let S = c .before .before .before .before .before .before .before .before .before .before .before .before .before .before .before .before .before .before in
+      rule-runs _ _ (tests _ _ _ _ (S .pre .1 .0 .0)) _ (S .pre .1 .1 .0) _ (at-line-at .line-at .ensures) (at-match .match .keys1) _ (at-rule-line .rule-line .ensures) _ _ _ _ _ (at-rule .rule .ensures)
 
   same-length-4 : simple-lts.Need-same-length-4 (simple-calls t) (simple-at t) simple.Post
   same-length-4 c =
@@ -245,44 +247,21 @@ module _ (t : ℕ) where
 
   same-length-25 : simple-lts.Need-same-length-25 (simple-calls t) (simple-at t) simple.Post
   same-length-25 c =
-      let at-rule2 = c .before .before .before .before .before .before in
-      at-rule2 .rule2 .kept .1 .1 .1 .0
-
-  same-length-26 : simple-lts.Need-same-length-26 (simple-calls t) (simple-at t) simple.Post
-  same-length-26 c =
-      let at-rule2 = c .before .before .before .before .before .before in
-      at-rule2 .rule2 .kept .1 .1 .1 .1 .0
-
-  same-length-27 : simple-lts.Need-same-length-27 (simple-calls t) (simple-at t) simple.Post
-  same-length-27 c =
-      let at-rule2 = c .before .before .before .before .before .before in
-      at-rule2 .rule2 .kept .1 .1 .1 .1 .1 .0
-
-  returns-9 : simple-lts.Need-returns-9 (simple-calls t) (simple-at t) simple.Post
-  returns-9 c =
-      let at-rule2 = c .before .before .before .before .before .before in
-      let at-match = c .before .before .before .before .before .before .before .before .before .before in
-      let at-line-at = c .before .before .before .before .before .before .before .before .before .before .before in
-      let S = c .before .before .before .before .before .before .before .before .before .before .before .before .before .before .before .before .before in
-      call-runs _ _ (tests _ _ _ _ (S .pre .1 .0 .0)) _ (S .pre .1 .1 .0) _ (at-line-at .line-at .ensures) _ _ _ _ _ (kind-of _ _ (tests _ _ _ _ (S .pre .1 .0 .0)) _ (S .pre .1 .1 .0) _ (at-line-at .line-at .ensures) 20 (at-match .match .keys9)) (at-rule2 .rule2 .ensures)
-
-  same-length-28 : simple-lts.Need-same-length-28 (simple-calls t) (simple-at t) simple.Post
-  same-length-28 c =
       let at-terminal = c .before .before .before .before .before .before in
       at-terminal .terminal .kept .1 .1 .1 .0
 
-  same-length-29 : simple-lts.Need-same-length-29 (simple-calls t) (simple-at t) simple.Post
-  same-length-29 c =
+  same-length-26 : simple-lts.Need-same-length-26 (simple-calls t) (simple-at t) simple.Post
+  same-length-26 c =
       let at-terminal = c .before .before .before .before .before .before in
       at-terminal .terminal .kept .1 .1 .1 .1 .0
 
-  same-length-30 : simple-lts.Need-same-length-30 (simple-calls t) (simple-at t) simple.Post
-  same-length-30 c =
+  same-length-27 : simple-lts.Need-same-length-27 (simple-calls t) (simple-at t) simple.Post
+  same-length-27 c =
       let at-terminal = c .before .before .before .before .before .before in
       at-terminal .terminal .kept .1 .1 .1 .1 .1 .0
 
-  returns-10 : simple-lts.Need-returns-10 (simple-calls t) (simple-at t) simple.Post
-  returns-10 c =
+  returns-9 : simple-lts.Need-returns-9 (simple-calls t) (simple-at t) simple.Post
+  returns-9 c =
       let at-terminal = c .before .before .before .before .before .before in
       at-terminal .terminal .ensures
 
@@ -290,6 +269,7 @@ pub simple-closed : {M : Type 1} → (t : ℕ) → simple-lts.Closed (simple-cal
 simple-closed t =
     simple-lts.spec (simple-calls t) (simple-at t) simple.Post
     (line-at-requires t)
+    (rule-line-requires t)
     (rule-requires t)
     (sequence-requires t)
     (repeat-requires t)
@@ -298,7 +278,6 @@ simple-closed t =
     (atomic-requires t)
     (stack-push-requires t)
     (restore-on-err-requires t)
-    (rule-requires-2 t)
     (terminal-requires t)
     (same-length t)
     (same-length-2 t)
@@ -336,7 +315,3 @@ simple-closed t =
     (same-length-26 t)
     (same-length-27 t)
     (returns-9 t)
-    (same-length-28 t)
-    (same-length-29 t)
-    (same-length-30 t)
-    (returns-10 t)
