@@ -26,7 +26,7 @@ typedef struct {
 } parser_core_outcome;
 
 /* Runs the grammar of `nodes`, four numbers a line, on `text`. It recurses: a level of
- * depth takes some 1 KB of stack, more in a grammar that nests kinds 6 and 7 (rust/README.md). */
+ * depth takes some 470 bytes of stack, more in a grammar that nests kinds 6 and 7 (rust/README.md). */
 parser_core_outcome parser_core_run(
     const int32_t *nodes, size_t nodes_len,
     const uint8_t *literals, size_t literals_len,
