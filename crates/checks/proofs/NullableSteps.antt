@@ -12,9 +12,9 @@ use lib.IntN.{ℤ, pos}
 use Rattle.checks.specs.declared.node.Field.{Field}
 use Rattle.checks.specs.declared.grammar.Fault.{Fault}
 use Rattle.reading.specs.Grammar.{row, node-at, kind-at, line-count, first-line}
-use Rattle.reading.specs.Nullable.{stands-still, flag, rounds, flags, still-repeat}
+use Rattle.reading.specs.Nullable.{still-rows, stands-still, flag, rounds, flags, still-repeat}
 use Rattle.checks.specs.FieldTests.{field-of, fault-of, flagged-repeat}
-use Rattle.reading.proofs.NullableLaws.{still-rows, rounds-length}
+use Rattle.reading.proofs.NullableLaws.{rounds-length}
 
 -- ── Flags ──
 pub flag-none : (f : List Bool) (l : ℕ) → l < 1 → false ≡ flag f l

@@ -97,6 +97,7 @@ pub fn normalize_end(i: i32, c: usize, len: usize) -> Index
     }
 }
 
+// Whether field c asks for the entries from the top down.
 pub fn is_top_down(c: usize) -> bool
     ensures { λ r. ⌜ r ≡ (eqb c 1 || eqb c 3) ⌝ }
 {

@@ -115,7 +115,7 @@ fn looked(s: &[usize], good: bool) -> Ending
     }
 }
 
-// Position, lookahead and stack return.
+// Back to where a lookahead began: position, lookahead and stack return.
 fn back_to(scratch: &mut [u32], s: &mut [usize], position: BytePosition, lookahead: Lookahead)
     requires { ⌜ state-size ≤ length (now s) ⌝ }
     requires { ⌜ StateReady (now scratch) (fields (now s)) ⌝ }
@@ -126,7 +126,7 @@ fn back_to(scratch: &mut [u32], s: &mut [usize], position: BytePosition, lookahe
     restored(scratch, s);
 }
 
-// They return whatever the body answered.
+// It goes back whatever the body answered.
 pub(crate) fn lookahead_end(
     scratch: &mut [u32],
     s: &mut [usize],

@@ -18,10 +18,10 @@ use Rattle.matching.proofs.Lead.{and-left, and-right, within-true, within-is}
 use Rattle.matching.proofs.Characters.{is-utf8-iff}
 use Rattle.reading.specs.Ending.{if_then_else_}
 use Rattle.reading.specs.Grammar.{Node, node-at, natural, kind-at, line-count, row, first-line, between, nil, scalar, count, name, edge, literal-part, called, field-rows, fields-fit, line-fits, misfit, Exp, match-string, match-insensitive, match-range, skip, end-of-input, and-then, or-else, rule, sequence, repeat, optional, lookahead, atomic, stack-push, stack-pop, stack-match-pop, restore-on-err, tag-node, call, atomicity-of, peek-slice, tree-of, trees, tree-at, rule-at, plain-line, plain}
-use Rattle.reading.specs.Nullable.{stands-still, nullable, still-repeat}
+use Rattle.reading.specs.Nullable.{still-rows, stands-still, nullable, still-repeat}
 use Rattle.reading.specs.Outcome.{Input, Refusal, refuse, unless, good-text, first-of, tests, refusal}
 use Rattle.reading.proofs.EdgeLaws as EdgeLaws
-use Rattle.reading.proofs.NullableLaws.{nullable-is, still-rows}
+use Rattle.reading.proofs.NullableLaws.{nullable-is}
 use Rattle.reading.proofs.Trees.{still, Steady, Literals, Calls, whole, Plain}
 
 -- ── A search that finds nothing ──

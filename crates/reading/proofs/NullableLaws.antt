@@ -12,12 +12,7 @@ use lib.Seq.{getD-set-same, getD-set-other, set-getD, set-out, take-at, length-t
 use lib.Dec.{eqb}
 use lib.IntN.{ℤ, pos}
 use Rattle.reading.specs.Grammar.{Node, natural, row, node-at, line-count, first-line}
-use Rattle.reading.specs.Nullable.{stands-still, Closed, Least, flag, raised, swept, rounds, flags, nullable, still-repeat}
-
--- ── One line: the table's rows over what the fields and flags say ──
-abbrev pub still-rows : (none-a none-b a b : Bool) → List Bool
-still-rows none-a none-b a b =
-    none-b ∷ none-b ∷ false ∷ none-a ∷ true ∷ (a && b) ∷ (a || b) ∷ b ∷ a ∷ true ∷ true ∷ true ∷ a ∷ a ∷ true ∷ true ∷ true ∷ a ∷ true ∷ a ∷ []
+use Rattle.reading.specs.Nullable.{still-rows, stands-still, Closed, Least, flag, raised, swept, rounds, flags, nullable, still-repeat}
 
 -- ── Monotone ──
 infix 10 _⊆_

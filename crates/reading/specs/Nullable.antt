@@ -9,34 +9,17 @@ use lib.ListN.{getD, set, replicate}
 use lib.Dec.{eqb}
 use Rattle.reading.specs.Grammar.{Node, node-at, natural, kind-at, line-count, row, first-line}
 
--- "kinds 1, 2 and 4 with zero; 5, 10, 11, 12, 15, 16, 17, 19; 6 if both do; 7 if either does; 8, 9, 13, 14, 18, 20 as their line does"
+-- "kinds 1, 2 and 4 with zero; 5, 10, 11, 12, 15, 16, 17, 19; 6 if both do; 7 if either does; 8, 9, 13, 14, 18, 20 as their line does":
+-- a row for each kind, by whether fields a and b are zero, and whether the lines that they name may stand still.
+abbrev pub still-rows : (none-a none-b a b : Bool) → List Bool
+still-rows none-a none-b a b =
+    none-b ∷ none-b ∷ false ∷ none-a ∷ true ∷ (a && b) ∷ (a || b) ∷ b ∷ a ∷ true ∷ true ∷ true ∷ a ∷ a ∷ true ∷ true ∷ true ∷ a ∷ true ∷ a ∷ []
+
 unfoldable pub stands-still : (ℕ → Bool) → Node → Bool
 stands-still still n =
     let a : ℕ = natural (n .a) in
     let b : ℕ = natural (n .b) in
-    row (
-    eqb b 0
-    ∷ eqb b 0
-    ∷ false
-    ∷ eqb a 0
-    ∷ true
-    ∷ (still a && still b)
-    ∷ (still a || still b)
-    ∷ still b
-    ∷ still a
-    ∷ true
-    ∷ true
-    ∷ true
-    ∷ still a
-    ∷ still a
-    ∷ true
-    ∷ true
-    ∷ true
-    ∷ still a
-    ∷ true
-    ∷ still a
-    ∷ [])
-    false (n .kind)
+    row (still-rows (eqb a 0) (eqb b 0) (still a) (still b)) false (n .kind)
 
 module _ (ns : List ℤ) where
   -- A set of lines that holds each line which the clauses put into it.
