@@ -115,9 +115,6 @@ module _ (ns : List ℤ) (literals : List ℕ) (w : Accepted ns literals) where
 pub fork-at : (ns : List ℤ) (l : ℕ) (n : Read.Line) → n ≡ line-of (node-at ns l) → Fork (n .kind) → Fork (kind-at ns l)
 fork-at ns l n e f = subst (λ (x : Read.Line). Fork (x .kind)) e f
 
-pub no-fork-at : (ns : List ℤ) (l : ℕ) (n : Read.Line) → n ≡ line-of (node-at ns l) → (Fork (n .kind) → ⊥) → Fork (kind-at ns l) → ⊥
-no-fork-at ns l n e f g = f (subst (λ (x : Read.Line). Fork (x .kind)) (sym e) g)
-
 -- What is evaluated of a tree is evaluated of the line that has it.
 pub by-tree : (ns : List ℤ) (literals text : List ℕ) (capacity d : ℕ) (x y : Exp) (m : ParserState) (r : Ending ParserState) → x ≡ y → r ≡ evaluated ns literals text capacity d y m → r ≡ evaluated ns literals text capacity d x m
 by-tree ns literals text capacity d x y m r e f = f ∙ ap (λ (z : Exp). evaluated ns literals text capacity d z m) (sym e)
