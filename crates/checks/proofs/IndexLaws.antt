@@ -10,7 +10,7 @@ use lib.IntN.{ℤ, pos, negsuc, _-ℤ_, natAbs}
 use lib.Signed.{ltZ, nonNeg}
 use mir.Syntax.{w32, w64}
 use mir.Val.{SFits, Fits, toZ, ofZ}
-use mir.Facts.{toZ-ofZ, sfits-widen, fits-natAbs}
+use mir.Facts.{toZ-ofZ, sfits-widen}
 use borrow.Author.Tests.{ltb-true, lt-ltb, le-ltb, eq-eqb, ne-eqb}
 use Rattle.checks.specs.declared.node.Index.{Index}
 use Rattle.checks.specs.declared.node.Index.the-variants.{At, Outside}
@@ -77,9 +77,6 @@ minus-at x len f (minus n) l =
     rw (e, le-ltb len (suc n) (omega arith))
 
 -- ── An index that is not negative ──
-pub cast-plus : (x : ℤ) → SFits w32 x → Plus x → T (nonNeg (toZ w32 (ofZ w32 x))) × Fits w64 (natAbs (toZ w32 (ofZ w32 x)))
-cast-plus x f (plus n) = rw (back x f) (tt, fits-natAbs tt f)
-
 -- "an index above the height"
 pub plus-outside : (x : ℤ) (len : ℕ) → SFits w32 x → Plus x → len < natAbs (toZ w32 (ofZ w32 x)) → Outside ≡ index-of (normalize-index x len)
 plus-outside x len f (plus n) l = rw (lt-ltb len n (omega (arith, ap natAbs (back x f))))

@@ -1,6 +1,7 @@
 -- By the sign: the size of a negative number goes through 64 bits.
 use Rattle.checks.proofs.node.normalize_index.Tie as tie
-use Rattle.checks.proofs.IndexLaws.{minus-of, plus-of, wide-fits, negated-fits, cast-negated, cast-plus, minus-outside, minus-at, plus-outside, plus-at}
+use Rattle.checks.proofs.FieldLaws.{cast-plus}
+use Rattle.checks.proofs.IndexLaws.{minus-of, plus-of, wide-fits, negated-fits, cast-negated, minus-outside, minus-at, plus-outside, plus-at}
 use Rattle.checks.proofs.node.normalize_index.Statement.{statement}
 
 cast-size : tie.Need-cast-size
@@ -16,7 +17,7 @@ returns : tie.Need-returns
 returns c = minus-outside _ _ (c .before .before .fits .i) (minus-of _ (c .before .before .fits .i) (c .before .if1 .taken)) (c .if2 .taken)
 
 cast-size-3 : tie.Need-cast-size-3
-cast-size-3 c = cast-plus _ (c .before .fits .i) (plus-of _ (c .before .fits .i) (c .if1 .left))
+cast-size-3 c = cast-plus _ (c .before .fits .i) (c .if1 .left)
 
 returns-2 : tie.Need-returns-2
 returns-2 c = plus-outside _ _ (c .before .before .fits .i) (plus-of _ (c .before .before .fits .i) (c .before .if1 .left)) (c .if3 .taken)
