@@ -233,9 +233,6 @@ module _ (ns : List ℤ) (literals text : List ℕ) (capacity d : ℕ) where
       top-is : (y : Ending ParserState) → y ≡ onto (at-line (n .b)) (going (n .kind) x) → y ≡ at-line top m
       top-is y f = Climbs.top-runs ns literals text capacity d fk top (here .low) (here .high) fork x m f₀ n h y f
 
-      top-stays : stay x ≡ going (n .kind) x → x ≡ at-line top m
-      top-stays f = top-is x (ap (onto (at-line (n .b))) f)
-
       pub top-go : (line : ℕ) (tokensₛ scratchₛ : List ℕ) (mₛ : ParserState) → Walking ns literals text capacity d line tokensₛ scratchₛ mₛ tokensₒ scratchₒ top m → (t : ParserState) → go t ≡ going (n .kind) x
           → Walking ns literals text capacity d line tokensₛ scratchₛ mₛ tokens scratch (n .b) t
       top-go line tokensₛ scratchₛ mₛ v t f =
@@ -251,10 +248,9 @@ module _ (ns : List ℤ) (literals text : List ℕ) (capacity d : ℕ) where
           }
 
     -- An ending that stays is the top's, whether it is a fork or not.
-    pub top-stay : (tokens scratch : List ℕ) → length tokens ≡ length tokensₒ → length scratch ≡ length scratchₒ → (x : Ending ParserState) → x ≡ at-line (below ns top) m
-        → (n : Read.Line) → n ≡ line-of (node-at ns top) → stay x ≡ going (n .kind) x → x ≡ at-line top m
-    top-stay tokens scratch ut us x f n h q = go (is-fork ns top)
+    pub top-stay : (x : Ending ParserState) → x ≡ at-line (below ns top) m → (n : Read.Line) → n ≡ line-of (node-at ns top) → stay x ≡ going (n .kind) x → x ≡ at-line top m
+    top-stay x f n h q = go (is-fork ns top)
       where
         go : Below ns top → x ≡ at-line top m
-        go (left k e) = top-stays k tokens scratch ut us x f n h q
+        go (left k e) = Climbs.top-runs ns literals text capacity d fk top (here .low) (here .high) k x m (f ∙ ap (λ (l : ℕ). at-line l m) e) n h x (ap (onto (at-line (n .b))) q)
         go (itself k e) = f ∙ ap (λ (l : ℕ). at-line l m) e

@@ -152,7 +152,7 @@ module _ (t : ℕ) where
       let at-left-side = c .before .before .before .before .before .before .before .before in
       let at-line-at = c .before .before .before .before .before .before .before .before .before .before .before .before in
       let at-if1 = c .before .before .before .before .before .before .before .before .before .before .before .before .before in
-      top-stay _ _ _ _ _ _ _ _ _ ((on at-if1) .ready) ((on at-if1) .here) (at-left-side .left-side .last .1 .1 .1 .0) (at-left-side .left-side .last .1 .1 .1 .1 .0) (at-left-side .left-side .kept .1 .1 .1 .0) (at-left-side .left-side .kept .1 .1 .1 .1 .0) _ (at-left-side .left-side .ensures) _ (at-line-at .line-at .ensures) (goes-no _ _ _ _ _ (sym (c .before .goes-right .ensures) ∙ refused-test (c .before .goes-right .result) (c .if2 .taken))) ∙ (on at-if1) .runs
+      top-stay _ _ _ _ _ _ _ _ _ ((on at-if1) .ready) ((on at-if1) .here) _ (at-left-side .left-side .ensures) _ (at-line-at .line-at .ensures) (goes-no _ _ _ _ _ (sym (c .before .goes-right .ensures) ∙ refused-test (c .before .goes-right .result) (c .if2 .taken))) ∙ (on at-if1) .runs
 
   -- A line whose right side is due is a fork.
   is-fork : (c : node-lts.Else2 (node-calls t) (node-at t) node.Post Inv-loop μ-loop) →
