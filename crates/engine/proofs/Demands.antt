@@ -14,16 +14,18 @@ use Rattle.reading.proofs.Demand1 as First
 use Rattle.reading.proofs.Demand2 as Second
 use Rattle.reading.proofs.Demand3 as Third
 
--- What a run was handed, what it returned, and its two areas as they then stand.
+-- What a run was handed, what it returned, and its areas as they then stand; of scratch also what it held before.
 pub record Run : Type 0 where
   pub handed : Input
   pub returned : Returned.Outcome
   pub tokens : List ℕ
   pub report : List ℕ
-  pub ran : Ran handed (outcome-of returned tokens report)
+  pub before : List ℕ
+  pub scratch : List ℕ
+  pub ran : Ran handed (outcome-of returned tokens report) before scratch
 
-pub demand-1 : (a : Run) → Demand1 (a .handed) (outcome-of (a .returned) (a .tokens) (a .report))
-demand-1 a = First.demand-1 (a .handed) (outcome-of (a .returned) (a .tokens) (a .report)) (a .ran)
+pub demand-1 : (a : Run) → Demand1 (a .handed) (outcome-of (a .returned) (a .tokens) (a .report)) (a .before) (a .scratch)
+demand-1 a = First.demand-1 (a .handed) (a .before) (a .scratch) (outcome-of (a .returned) (a .tokens) (a .report)) (a .ran)
 
 pub demand-2 : (a : Run) → refusal (a .handed) ≡ none → Demand2 (a .handed) (outcome-of (a .returned) (a .tokens) (a .report))
 demand-2 a e = Second.demand-2 (a .handed) e (outcome-of (a .returned) (a .tokens) (a .report)) (a .ran)

@@ -61,9 +61,10 @@ unfolding numbers pairs queue-of
 first-is l tokens scratch = ap (λ (x : Option CallLimit). record { position = 0; queue = []; lookahead = None; pos-attempts = []; neg-attempts = []; attempt-pos = 0; atomicity = NonAtomic; stack = record { cache = []; popped = []; lengths = [] }; call-tracker = record { current-call-limit = x; limit-reached = none } }) (limit-is l)
 
 -- ── A refused run ──
-pub refused-is : (i : Input) (n p : ℕ) → By n p ≡ refused-of (refusal i) → Ran i (refused i (record { number = n; place = p }))
+pub refused-is : (i : Input) (scratch : List ℕ) (n p : ℕ) → By n p ≡ refused-of (refusal i)
+    → Ran i (refused i (record { number = n; place = p })) scratch scratch
 unfolding outcome
-refused-is i n p h = record { is = go (refusal i) h }
+refused-is i scratch n p h = record { is = go (refusal i) h; left = λ r e. refl }
   where
     go : (o : Option Refusal) → By n p ≡ refused-of o → refused i (record { number = n; place = p }) ≡ (elim o as (λ _. Outcome) [ some r ↦ refused i r | none ↦ started i (answer (reading i)) ])
     go none e = let z : _≡_ {A = ℕ} 0 1 = cc in absurd (omega arith)
@@ -150,6 +151,8 @@ module _ (i : Input) (e : refusal i ≡ none) where
         go Code.Err f = concluding t f
         go Code.Stop f = tt
 
-    pub run-is : (o : Outcome) (t : State.ParserState) (r : Declared.Ending) → view-end tokens scratch t r ≡ ran → o ≡ laid (length tokens) (length (i .report)) (pest-answer (view-end tokens scratch t r)) → Ran i o
-    run-is o t r h q =
-        record { is = q ∙ ap₂ (λ (n : ℕ) (a : Answer). laid n (length (i .report)) a) same (ap pest-answer h ∙ sym (run-alike i e)) ∙ sym (outcome-is i e) }
+    pub run-is : (o : Outcome) (t : State.ParserState) (r : Declared.Ending) {before after : List ℕ} → view-end tokens scratch t r ≡ ran → o ≡ laid (length tokens) (length (i .report)) (pest-answer (view-end tokens scratch t r)) → Ran i o before after
+    run-is o t r h q = record {
+      is = q ∙ ap₂ (λ (n : ℕ) (a : Answer). laid n (length (i .report)) a) same (ap pest-answer h ∙ sym (run-alike i e)) ∙ sym (outcome-is i e);
+      left = λ x d. let z : _≡_ {A = ℕ} 0 1 = cc (e, d) in absurd (omega arith);
+    }

@@ -94,7 +94,7 @@ fn started<'a>(
     scratch: &mut [u32],
 ) -> Outcome
     requires { ⌜ refusal (input (now nodes) (now literals) (now text) «depth_limit» «call_limit» (now tokens) (now report) (length (now scratch))) ≡ none ⌝ }
-    ensures { λ r. ⌜ Ran (input (now (nodes .entry)) (now (literals .entry)) (now (text .entry)) «depth_limit» «call_limit» (now (tokens .entry)) (now (report .entry)) (length (now (scratch .entry)))) (outcome-of r (now (tokens .exit)) (now (report .exit))) ⌝ }
+    ensures { λ r. ⌜ Ran (input (now (nodes .entry)) (now (literals .entry)) (now (text .entry)) «depth_limit» «call_limit» (now (tokens .entry)) (now (report .entry)) (length (now (scratch .entry)))) (outcome-of r (now (tokens .exit)) (now (report .exit))) (now (scratch .entry)) (now (scratch .exit)) ⌝ }
 {
     let room = capacity_of(tokens);
     let root = nodes.len() / 4;
@@ -126,7 +126,7 @@ pub fn run<'a>(
     report: &mut [u32],
     scratch: &mut [u32],
 ) -> Outcome
-    ensures { λ r. ⌜ Ran (input (now (nodes .entry)) (now (literals .entry)) (now (text .entry)) «depth_limit» «call_limit» (now (tokens .entry)) (now (report .entry)) (length (now (scratch .entry)))) (outcome-of r (now (tokens .exit)) (now (report .exit))) ⌝ }
+    ensures { λ r. ⌜ Ran (input (now (nodes .entry)) (now (literals .entry)) (now (text .entry)) «depth_limit» «call_limit» (now (tokens .entry)) (now (report .entry)) (length (now (scratch .entry)))) (outcome-of r (now (tokens .exit)) (now (report .exit))) (now (scratch .entry)) (now (scratch .exit)) ⌝ }
 {
     let m = report.len();
     let k = scratch.len();

@@ -34,11 +34,11 @@ numbers-length k (l ∷ ls) e = go (line l) e (numbers-length (suc k) ls)
     go (some v) e h = omega (arith, h e)
 
 module _ (s : List ℕ) (a b : List ℤ) (r : Outcome) (g : Given) (w : SheetRead s a b r) where
-  pub run-refused : (r .number ≡ 0 → ⊥) → SheetRun s a b g (record { answer = r; tokens = g .tokens; report = g .report })
+  pub run-refused : (r .number ≡ 0 → ⊥) → SheetRun s a b g (record { answer = r; tokens = g .tokens; report = g .report; scratch = g .scratch })
   run-refused z = record { answered = go (reading s (length a)) (w .answer); area = w .area }
     where
-      go : (x : Reading) → r ≡ outcome x → Answered x g (record { answer = r; tokens = g .tokens; report = g .report })
-      go (refused n p) e = (e, refl, refl)
+      go : (x : Reading) → r ≡ outcome x → Answered x g (record { answer = r; tokens = g .tokens; report = g .report; scratch = g .scratch })
+      go (refused n p) e = (e, refl, refl, refl)
       go (read k ns) e = absurd (z (ap (λ y. y .number) e))
 
   module _ (z : r .number ≡ 0) where

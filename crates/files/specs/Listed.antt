@@ -16,7 +16,7 @@ given literals text = record {
   call-limit = 0;
   tokens = replicate 16380 0;
   report = replicate 515 0;
-  scratch = 4864;
+  scratch = replicate 4864 0;
 }
 
 -- r answers these three texts: what the areas hold at the end is not given back.
@@ -24,7 +24,8 @@ pub record Answers (sheet literals text : List ℕ) (r : Outcome) : Type 0 where
   pub nodes : List ℤ
   pub tokens : List ℕ
   pub report : List ℕ
-  pub is : SheetRun sheet (replicate 16384 (pos 0)) nodes (given literals text) (record { answer = r; tokens = tokens; report = report })
+  pub scratch : List ℕ
+  pub is : SheetRun sheet (replicate 16384 (pos 0)) nodes (given literals text) (record { answer = r; tokens = tokens; report = report; scratch = scratch })
 
 -- r answers what was read of three files, at most 65,536 bytes of each: one more than a text may have.
 pub record Listed (r : Outcome) : Type 0 where

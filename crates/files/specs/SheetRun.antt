@@ -8,7 +8,7 @@ use Rattle.engine.specs.declared.state.Outcome.{Outcome}
 use Rattle.reading.specs.Run.{Ran}
 use Rattle.sheet.specs.Sheet.{Reading, refused, read, reading, outcome, area-after}
 
--- What is handed over: the two texts, the limits, the token and report areas as they are at the start, and the size of scratch.
+-- What is handed over: the two texts, the limits, and the areas of a run as they are at the start.
 pub record Given : Type 0 where
   pub literals : List ℕ
   pub text : List ℕ
@@ -16,17 +16,19 @@ pub record Given : Type 0 where
   pub call-limit : ℕ
   pub tokens : List ℕ
   pub report : List ℕ
-  pub scratch : ℕ
+  pub scratch : List ℕ
 
--- What comes back: number, place, count, and the two areas as they stand at the end.
+-- What comes back: number, place, count, and those areas as they stand at the end.
 pub record Back : Type 0 where
   pub answer : Outcome
   pub tokens : List ℕ
   pub report : List ℕ
+  pub scratch : List ℕ
 
--- A refused sheet is answered by its own number, and leaves both areas. A good one is run: the nodes that it gave, and no others.
+-- A refused sheet is answered by its own number, and leaves all areas. A good one is run: the nodes that it gave, and no others.
 abbrev pub Answered : Reading → Given → Back → Type 0
-Answered (refused n p) g b = (b .answer ≡ outcome (refused n p)) × (b .tokens ≡ g .tokens) × (b .report ≡ g .report)
+Answered (refused n p) g b =
+    (b .answer ≡ outcome (refused n p)) × (b .tokens ≡ g .tokens) × (b .report ≡ g .report) × (b .scratch ≡ g .scratch)
 Answered (read k ns) g b =
     Ran
     (record {
@@ -37,7 +39,7 @@ Answered (read k ns) g b =
       call-limit = g .call-limit;
       tokens = g .tokens;
       report = g .report;
-      scratch = g .scratch;
+      scratch = length (g .scratch);
     })
     (record {
       number = b .answer .number;
@@ -46,8 +48,10 @@ Answered (read k ns) g b =
       tokens = b .tokens;
       report = b .report;
     })
+    (g .scratch)
+    (b .scratch)
 
--- What `run_sheet` promises: the answer, both areas, and the node area.
+-- What `run_sheet` promises: the answer, the areas of a run, and the node area.
 pub record SheetRun (sheet : List ℕ) (before after : List ℤ) (g : Given) (b : Back) : Type 0 where
   pub answered : Answered (reading sheet (length before)) g b
   pub area : after ≡ area-after (reading sheet (length before)) before

@@ -2,7 +2,6 @@
 use engine::state::Outcome;
 use engine::state::run;
 use sheet::sheet::read_sheet;
-ghost use lib.ListN.{length};
 ghost use Rattle.files.specs.SheetRun.{SheetRun};
 
 // Document 01's tests and stops in order, 1 to 16. A refused sheet leaves all areas, a refused run those of the run.
@@ -17,7 +16,7 @@ pub fn run_sheet<'a>(
     report: &mut [u32],
     scratch: &mut [u32],
 ) -> Outcome
-    ensures { λ r. ⌜ SheetRun (now (sheet .entry)) (now (nodes .entry)) (now (nodes .exit)) (record { literals = now (literals .entry); text = now (text .entry); depth-limit = «depth_limit»; call-limit = «call_limit»; tokens = now (tokens .entry); report = now (report .entry); scratch = length (now (scratch .entry)) }) (record { answer = r; tokens = now (tokens .exit); report = now (report .exit) }) ⌝ }
+    ensures { λ r. ⌜ SheetRun (now (sheet .entry)) (now (nodes .entry)) (now (nodes .exit)) (record { literals = now (literals .entry); text = now (text .entry); depth-limit = «depth_limit»; call-limit = «call_limit»; tokens = now (tokens .entry); report = now (report .entry); scratch = now (scratch .entry) }) (record { answer = r; tokens = now (tokens .exit); report = now (report .exit); scratch = now (scratch .exit) }) ⌝ }
 {
     let read = read_sheet(sheet, nodes);
     if read.number != 0 {

@@ -39,7 +39,7 @@ pub extern "C" fn parser_core_run<'a>(
     report: &mut [u32],
     scratch: &mut [u32],
 ) -> ParserCoreOutcome
-    ensures { λ r. ⌜ Ran (input (now (nodes .entry)) (now (literals .entry)) (now (text .entry)) «depth_limit» «call_limit» (now (tokens .entry)) (now (report .entry)) (length (now (scratch .entry)))) (outcome-of (returned r) (now (tokens .exit)) (now (report .exit))) ⌝ }
+    ensures { λ r. ⌜ Ran (input (now (nodes .entry)) (now (literals .entry)) (now (text .entry)) «depth_limit» «call_limit» (now (tokens .entry)) (now (report .entry)) (length (now (scratch .entry)))) (outcome-of (returned r) (now (tokens .exit)) (now (report .exit))) (now (scratch .entry)) (now (scratch .exit)) ⌝ }
 {
     let o = run(
         nodes,

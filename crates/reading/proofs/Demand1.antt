@@ -64,13 +64,13 @@ ended (Stop (Cause.TokensFull l)) = without 14 (omega arith) (omega arith)
 ended (Stop (Cause.StackFull l)) = without 15 (omega arith) (omega arith)
 ended (Stop (Cause.AttemptsFull l)) = without 16 (omega arith) (omega arith)
 
-module _ (i : Input) where
+module _ (i : Input) (before after : List ℕ) where
   refused-is : (r : Refusal) → refusal i ≡ some r → outcome i ≡ refused i r
   unfolding outcome
   refused-is r e = ap (λ (o : Option Refusal). elim o as (λ _. Outcome) [ some x ↦ refused i x | none ↦ started i (answer (reading i)) ]) e
 
-  as-refused : (r : Refusal) → refusal i ≡ some r → Refused i r (outcome i)
-  as-refused r e = record {
+  as-refused : (r : Refusal) → refusal i ≡ some r → after ≡ before → Refused i r (outcome i) before after
+  as-refused r e left = record {
     from = refusal-numbered i r e .0;
     to = refusal-numbered i r e .1;
     number = ap (λ (o : Outcome). o .number) (refused-is r e);
@@ -78,16 +78,17 @@ module _ (i : Input) where
     count = ap (λ (o : Outcome). o .count) (refused-is r e);
     tokens = ap (λ (o : Outcome). o .tokens) (refused-is r e);
     report = ap (λ (o : Outcome). o .report) (refused-is r e);
+    scratch = left;
   }
 
-  of-outcome : Demand1 i (outcome i)
-  of-outcome = record {
-    refused = as-refused;
+  of-outcome : ((r : Refusal) → refusal i ≡ some r → after ≡ before) → Demand1 i (outcome i) before after
+  of-outcome left = record {
+    refused = λ r e. as-refused r e (left r e);
     accepted = λ e. subst (λ (o : Outcome). Ended (o .number)) (sym (outcome-is i e)) (ended (reading i));
     full = λ e c q. outcome-is i e ∙ ap (λ (r : Ending State). started i (answer r)) q;
     within = run-bounded i;
   }
 
   -- Demand 1, of any value that keeps `run`'s promise.
-  pub demand-1 : (o : Outcome) → Ran i o → Demand1 i o
-  demand-1 o a = subst (Demand1 i) (sym (a .is)) of-outcome
+  pub demand-1 : (o : Outcome) → Ran i o before after → Demand1 i o before after
+  demand-1 o a = subst (λ (x : Outcome). Demand1 i x before after) (sym (a .is)) (of-outcome (a .left))

@@ -1,5 +1,6 @@
 -- Demand 2: a number up to 12 is given for no stop, and the laws of a run say the rest.
 use mathlib.Core.Path.{_≡_, sym, ap, _∙_, subst}
+use mathlib.Core.List.{List}
 use mathlib.Core.Option.{none}
 use Prim.Native.Nat.{ℕ, _≤_}
 use native.Mathlib.Omega.{arith}
@@ -33,5 +34,5 @@ module _ (i : Input) (e : refusal i ≡ none) where
   }
 
   -- Demand 2, of any value that keeps `run`'s promise, started.
-  pub demand-2 : (o : Outcome) → Ran i o → Demand2 i o
+  pub demand-2 : (o : Outcome) {before after : List ℕ} → Ran i o before after → Demand2 i o
   demand-2 o a = subst (Demand2 i) (sym (a .is ∙ outcome-is i e)) of-started

@@ -136,5 +136,5 @@ module _ (i j : Input) (e : refusal i ≡ none) (d : refusal j ≡ none) where
   both = record { first = each i e; second = each j d; same-tokens = same-tokens; same-reports = same-reports }
 
   -- Demand 3, of any two values that keep `run`'s promise.
-  pub demand-3 : (o p : Outcome) → Ran i o → Ran j p → Demand3 i j o p
+  pub demand-3 : (o p : Outcome) {b₁ a₁ b₂ a₂ : List ℕ} → Ran i o b₁ a₁ → Ran j p b₂ a₂ → Demand3 i j o p
   demand-3 o p a b = subst (λ (x : Outcome). Demand3 i j x p) (sym (a .is)) (subst (λ (x : Outcome). Demand3 i j (outcome i) x) (sym (b .is)) both)

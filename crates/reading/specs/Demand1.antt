@@ -1,5 +1,6 @@
 -- Demand 1, in the customer's words, of what a run gave. Of a sheet's reading (1 to 3) the crate sheet has the same.
 use mathlib.Core.Path.{_≡_}
+use mathlib.Core.List.{List}
 use mathlib.Core.Option.{none, some}
 use Prim.Native.Nat.{ℕ, _≤_}
 use lib.ListN.{length}
@@ -24,8 +25,8 @@ pub data Within (i : Input) : Ending State → Type 0 where
   bounded-err : (t : State) → Bounded i t → Within i (Err t)
   bounded-stop : (c : Cause) → Within i (Stop c)
 
--- "Refused by number, with the areas left as document 01 fixes": one of 4 to 9, and both areas as they were.
-pub record Refused (i : Input) (r : Refusal) (o : Outcome) : Type 0 where
+-- "Refused by number, with the areas left as document 01 fixes": one of 4 to 9, and all areas as they were.
+pub record Refused (i : Input) (r : Refusal) (o : Outcome) (before after : List ℕ) : Type 0 where
   pub from : 4 ≤ r .number
   pub to : r .number ≤ 9
   pub number : o .number ≡ r .number
@@ -33,14 +34,16 @@ pub record Refused (i : Input) (r : Refusal) (o : Outcome) : Type 0 where
   pub count : o .count ≡ 0
   pub tokens : o .tokens ≡ i .tokens
   pub report : o .report ≡ i .report
+  pub scratch : after ≡ before
 
 -- "run to an end": 0, or 10 to 16.
 pub data Ended : ℕ → Type 0 where
   with-tokens : Ended 0
   without : (n : ℕ) → 10 ≤ n → n ≤ 16 → Ended n
 
-pub record Demand1 (i : Input) (o : Outcome) : Type 0 where
-  pub refused : (r : Refusal) → refusal i ≡ some r → Refused i r o
+-- `before` and `after`: scratch.
+pub record Demand1 (i : Input) (o : Outcome) (before after : List ℕ) : Type 0 where
+  pub refused : (r : Refusal) → refusal i ≡ some r → Refused i r o before after
   -- "Every other sheet, text and limit is accepted and run to an end."
   pub accepted : refusal i ≡ none → Ended (o .number)
   -- "full lists, a pop of an empty stack": their numbers, and both areas zeroed.

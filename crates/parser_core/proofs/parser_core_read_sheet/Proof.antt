@@ -1,7 +1,5 @@
 -- `read_sheet`'s promise, of the outcome that was handed back.
 use borrow.Author.Needs.{needs}
-use Rattle.sheet.specs.Sheet.{SheetRead}
-use Rattle.parser_core.proofs.Carried.{carried}
 use Rattle.parser_core.proofs.parser_core_read_sheet.Statement.{statement}
 use Rattle.parser_core.proofs.parser_core_read_sheet.Tie as tie
 
@@ -15,7 +13,7 @@ same-length : tie.Need-same-length
 same-length c = search needs
 
 returns : tie.Need-returns
-returns c = carried SheetRead (c .handed-back .ensures) (c .before .before .read-sheet .ensures)
+returns c = rw (c .handed-back .ensures) (c .before .before .read-sheet .ensures)
 
 pub parser-core-read-sheet-spec : {M : Type 1} → statement M
 parser-core-read-sheet-spec = tie.close (tie.spec read-sheet-requires handed-back-requires same-length returns)

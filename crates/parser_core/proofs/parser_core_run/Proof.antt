@@ -1,7 +1,5 @@
 -- `run`'s promise, of the outcome that was handed back.
 use borrow.Author.Needs.{needs}
-use Rattle.engine.specs.Conclude.{outcome-of}
-use Rattle.reading.specs.Run.{Ran}
 use Rattle.parser_core.proofs.Carried.{carried}
 use Rattle.parser_core.proofs.parser_core_run.Statement.{statement}
 use Rattle.parser_core.proofs.parser_core_run.Tie as tie
@@ -22,7 +20,7 @@ same-length-3 : tie.Need-same-length-3
 same-length-3 c = search needs
 
 returns : tie.Need-returns
-returns c = carried (λ i tokens report o. Ran i (outcome-of o tokens report)) (c .handed-back .ensures) (c .before .before .before .before .before .before .before .run .ensures)
+returns c = carried (c .handed-back .ensures) (c .before .before .before .before .before .before .before .run .ensures)
 
 pub parser-core-run-spec : {M : Type 1} → statement M
 parser-core-run-spec = tie.close (tie.spec run-requires handed-back-requires same-length same-length-2 same-length-3 returns)

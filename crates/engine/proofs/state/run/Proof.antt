@@ -22,7 +22,7 @@ started-requires : tie.Need-started-requires
 started-requires c κs = let i : Input = input (c .before .before .before .before .before .before .before .before .before .before .before .args .nodes .now) (c .before .before .before .before .before .before .before .before .before .before .before .args .literals .now) (c .before .before .before .before .before .before .before .before .before .before .before .args .text .now) (c .before .before .before .before .before .before .before .before .before .before .before .args .depth-limit) (c .before .before .before .before .before .before .before .before .before .before .before .args .call-limit) (c .before .before .before .before .before .before .before .before .before .before .before .args .tokens .now) (c .before .before .before .before .before .before .before .before .before .before .before .args .report .now) (length (c .before .before .before .before .before .before .before .before .before .before .before .args .scratch .now)) in not-refused _ (sym (c .before .before .before .enum-told .given .1) ∙ c .before .before .before .before .before .refusal .ensures i (record { nodes-are = refl; literals-are = refl; text-is = refl; depth-is = refl; report-is = refl; scratch-is = refl }))
 
 returns : tie.Need-returns
-returns c = let i : Input = input (c .before .before .before .before .before .before .before .before .before .args .nodes .now) (c .before .before .before .before .before .before .before .before .before .args .literals .now) (c .before .before .before .before .before .before .before .before .before .args .text .now) (c .before .before .before .before .before .before .before .before .before .args .depth-limit) (c .before .before .before .before .before .before .before .before .before .args .call-limit) (c .before .before .before .before .before .before .before .before .before .args .tokens .now) (c .before .before .before .before .before .before .before .before .before .args .report .now) (length (c .before .before .before .before .before .before .before .before .before .args .scratch .now)) in refused-is i _ _ (sym (c .before .number .given .1) ∙ c .before .before .before .refusal .ensures i (record { nodes-are = refl; literals-are = refl; text-is = refl; depth-is = refl; report-is = refl; scratch-is = refl }))
+returns c = let i : Input = input (c .before .before .before .before .before .before .before .before .before .args .nodes .now) (c .before .before .before .before .before .before .before .before .before .args .literals .now) (c .before .before .before .before .before .before .before .before .before .args .text .now) (c .before .before .before .before .before .before .before .before .before .args .depth-limit) (c .before .before .before .before .before .before .before .before .before .args .call-limit) (c .before .before .before .before .before .before .before .before .before .args .tokens .now) (c .before .before .before .before .before .before .before .before .before .args .report .now) (length (c .before .before .before .before .before .before .before .before .before .args .scratch .now)) in refused-is i _ _ _ (sym (c .before .number .given .1) ∙ c .before .before .before .refusal .ensures i (record { nodes-are = refl; literals-are = refl; text-is = refl; depth-is = refl; report-is = refl; scratch-is = refl }))
 
 same-length : tie.Need-same-length
 same-length c = search needs
