@@ -9,6 +9,8 @@ pub trait Contender {
     fn name(&self) -> &'static str;
     /// The areas come prepared; scratch is the contender's own, of the case's length.
     fn run(&mut self, case: &Case, areas: &mut Areas) -> Outcome;
+    /// Whether the last run left its scratch as it was, as a refused one must.
+    fn left_scratch(&self) -> bool;
 }
 
 /// Those linked into this build.
@@ -28,6 +30,7 @@ mod library {
     #[derive(Default)]
     pub struct Library {
         scratch: Vec<u32>,
+        before: Vec<u32>,
     }
 
     impl Contender for Library {
@@ -37,6 +40,7 @@ mod library {
 
         fn run(&mut self, case: &Case, areas: &mut Areas) -> Outcome {
             self.scratch.resize(case.scratch, FILL);
+            self.before.clone_from(&self.scratch);
             let parser_core::Outcome { number, place, count } = parser_core::run(
                 &case.nodes,
                 &case.literals,
@@ -48,6 +52,10 @@ mod library {
                 &mut self.scratch,
             );
             Outcome { number, place, count }
+        }
+
+        fn left_scratch(&self) -> bool {
+            self.scratch == self.before
         }
     }
 }

@@ -220,6 +220,9 @@ impl Judge {
             if self.others != self.areas {
                 return different(contender.name(), &self.others, &self.areas);
             }
+            if (4..=9).contains(&outcome.number) && !contender.left_scratch() {
+                return different(contender.name(), &"wrote scratch", &"a refused run leaves it");
+            }
         }
         Ok(())
     }
