@@ -14,6 +14,7 @@ use Rattle.engine.specs.declared.spine.Spine.{Spine}
 use Rattle.engine.specs.Fields as Code
 use Rattle.engine.specs.declared.parser_state.Ending as Coded
 use Rattle.engine.specs.declared.parser_state.Ending.the-variants as Coded-of
+use Rattle.reading.specs.declared.parser_state.Cause.{Cause}
 use Rattle.reading.specs.Ending.{if_then_else_, Ending, Ok, Err, Stop, on-ok, on-err}
 use Rattle.reading.specs.Grammar.{Exp, and-then, or-else, natural, node-at, kind-at, line-count, tree-at}
 use Rattle.reading.specs.Pest as Pest
@@ -60,27 +61,27 @@ pub goes-err : (k : ℕ) (e : Coded.Ending) → e ≡ Coded-of.Err → eqb k 7 �
 unfolding goes
 goes-err k e h = rw h
 
-pub goes-stop : (k : ℕ) (e : Coded.Ending) → e ≡ Coded-of.Stop → false ≡ goes k e
+pub goes-stop : (k : ℕ) (e : Coded.Ending) (c : Cause) → e ≡ Coded-of.Stop c → false ≡ goes k e
 unfolding goes
-goes-stop k e h = rw h
+goes-stop k e c h = rw h
 
 pub goes-yes : (a b : List ℕ) (s : Code.ParserState) (k : ℕ) (e : Coded.Ending) → goes k e ≡ true → go (view a b s) ≡ going k (view-end a b s e)
 unfolding going goes
 goes-yes a b s k Coded-of.Ok h = simp h
 goes-yes a b s k Coded-of.Err h = simp h
-goes-yes a b s k Coded-of.Stop h = absurd (false≢true h)
+goes-yes a b s k (Coded-of.Stop c) h = absurd (false≢true h)
 
 pub goes-no : (a b : List ℕ) (s : Code.ParserState) (k : ℕ) (e : Coded.Ending) → goes k e ≡ false → stay (view-end a b s e) ≡ going k (view-end a b s e)
 unfolding going goes
 goes-no a b s k Coded-of.Ok h = simp h
 goes-no a b s k Coded-of.Err h = simp h
-goes-no a b s k Coded-of.Stop h = refl
+goes-no a b s k (Coded-of.Stop c) h = refl
 
 pub goes-fork : (k : ℕ) (e : Coded.Ending) → goes k e ≡ true → Fork k
 unfolding goes
 goes-fork k Coded-of.Ok h = inl (eqb-true k 6 h)
 goes-fork k Coded-of.Err h = inr (eqb-true k 7 h)
-goes-fork k Coded-of.Stop h = absurd (false≢true h)
+goes-fork k (Coded-of.Stop c) h = absurd (false≢true h)
 
 -- ── The lines of an accepted grammar that are forks ──
 abbrev pub right-of : List ℤ → (line : ℕ) → ℕ

@@ -40,7 +40,7 @@ module _ (a : List ℕ) (s t : Code.ParserState) (p : BytePosition) (i : TokenIn
 pub atomic-set : (tokens scratch : List ℕ) (s t : Code.ParserState) (a : Atomicity) (r : Declared.Ending) → t ≡ Code.set-atomicity a s → view-end tokens scratch t r ≡ atomic-back a (view-end tokens scratch s r)
 atomic-set tokens scratch s t a Variants.Ok e = ap (λ (u : Code.ParserState). Ok (view tokens scratch u)) e
 atomic-set tokens scratch s t a Variants.Err e = ap (λ (u : Code.ParserState). Err (view tokens scratch u)) e
-atomic-set tokens scratch s t a Variants.Stop e = ap (λ (u : Code.ParserState). Stop (u .cause)) e
+atomic-set tokens scratch s t a (Variants.Stop c) e = refl
 
 -- ── the answer of a lookahead ──
 pub looking-limit : (good : Bool) (m : ParserState) → limit-reached m ≡ true → Err m ≡ looking good m

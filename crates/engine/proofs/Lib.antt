@@ -1,4 +1,5 @@
 pub mod StateFields
+pub mod PackedLaws
 pub mod Regions
 pub mod Moves
 pub mod StackSteps

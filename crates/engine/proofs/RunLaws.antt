@@ -10,7 +10,6 @@ use lib.ListN.{length}
 use borrow.Author.Tests.{lt-ltb}
 use Rattle.reading.specs.declared.parser_state.Lookahead.the-variants.{None}
 use Rattle.reading.specs.declared.parser_state.Atomicity.the-variants.{NonAtomic}
-use Rattle.reading.specs.declared.parser_state.Cause.the-variants.{EmptyStack}
 use Rattle.checks.specs.declared.call_limit_tracker.LimitReached.the-variants.{No}
 use Rattle.checks.specs.declared.grammar.Refused.the-variants.{By}
 use Rattle.engine.specs.Fields as State
@@ -43,7 +42,7 @@ limit-is : (l : ℕ) → limit-of 0 l ≡ Pest.new l .call-tracker .current-call
 limit-is zero = refl
 limit-is (suc l) = rw (lt-ltb 0 (suc l) (omega arith))
 
--- The first state: empty lists, whatever the areas hold. Its cause is any: it stands for nothing until a stop.
+-- The first state: empty lists, whatever the areas hold.
 abbrev first : ℕ → State.ParserState
 first l = record {
   position = record { 0 = 0 };
@@ -53,7 +52,6 @@ first l = record {
   tracker = record { current = 0; limit = l; reached = No };
   lookahead = None;
   atomicity = NonAtomic;
-  cause = EmptyStack 0;
 }
 
 pub first-is : (l : ℕ) (tokens scratch : List ℕ) → view tokens scratch (first l) ≡ Pest.new l
@@ -149,7 +147,7 @@ module _ (i : Input) (e : refusal i ≡ none) where
         go : (r : Declared.Ending) → FitEnd (view-end tokens scratch t r) → ConcludeReady tokens scratch (i .report) t r
         go Code.Ok f = concluding t f
         go Code.Err f = concluding t f
-        go Code.Stop f = tt
+        go (Code.Stop c) f = tt
 
     pub run-is : (o : Outcome) (t : State.ParserState) (r : Declared.Ending) {before after : List ℕ} → view-end tokens scratch t r ≡ ran → o ≡ laid (length tokens) (length (i .report)) (pest-answer (view-end tokens scratch t r)) → Ran i o before after
     run-is o t r h q = record {

@@ -2,7 +2,7 @@
 use mathlib.Core.Path.{_≡_, refl, ap, fun-ext, _∙_}
 use mathlib.Core.Bool.{Bool, true, false}
 use mathlib.Core.List.{List}
-use Prim.Native.Nat.{ℕ, _%_, _≤_, _<_}
+use Prim.Native.Nat.{ℕ, _≤_, _<_}
 use native.Mathlib.Omega.{arith}
 use lib.Dec.{eqb}
 use lib.ListN.{length, getD, set, length-set}
@@ -12,14 +12,13 @@ use Rattle.matching.specs.declared.position.BytePosition.{BytePosition}
 use Rattle.matching.specs.declared.position.TokenIndex.{TokenIndex}
 use Rattle.reading.specs.declared.parser_state.Lookahead.{Lookahead}
 use Rattle.reading.specs.declared.parser_state.Atomicity.{Atomicity}
-use Rattle.reading.specs.declared.parser_state.Cause.{Cause}
 use Rattle.checks.specs.declared.call_limit_tracker.LimitReached.{LimitReached}
 use Rattle.checks.specs.declared.call_limit_tracker.CallLimitTracker.{CallLimitTracker}
 use Rattle.engine.specs.declared.attempts.Attempts.{Attempts}
 use Rattle.engine.specs.declared.stack.Stack.{Stack}
 use Rattle.reading.specs.Ending.{if_then_else_}
 use Rattle.engine.specs.Fields as Fields
-use Rattle.engine.specs.Fields.{fields, state-from, lookahead-of, atomicity-of, reached-of, cause-of}
+use Rattle.engine.specs.Fields.{fields, state-from, lookahead-of, atomicity-of, reached-of}
 
 abbrev numbers : List ℕ → ℕ → ℕ
 numbers a i = getD a i 0
@@ -38,20 +37,20 @@ stored : (a : List ℕ) (k v : ℕ) → k < length a → numbers (set a k v) ≡
 stored a k v h = fun-ext (stored-at a k v h)
 
 -- A number of the state has its place, also after stores.
-pub below : (a : List ℕ) (k : ℕ) → 15 ≤ length a → k < 15 → k < length a
+pub below : (a : List ℕ) (k : ℕ) → 13 ≤ length a → k < 13 → k < length a
 below a k h i = omega arith
 
-pub below-set : (a : List ℕ) (i x k : ℕ) → 15 ≤ length a → k < 15 → k < length (set a i x)
+pub below-set : (a : List ℕ) (i x k : ℕ) → 13 ≤ length a → k < 13 → k < length (set a i x)
 below-set a i x k h j = omega (arith, length-set a i x)
 
-pub below-sets : (a : List ℕ) (i x j y k : ℕ) → 15 ≤ length a → k < 15 → k < length (set (set a i x) j y)
+pub below-sets : (a : List ℕ) (i x j y k : ℕ) → 13 ≤ length a → k < 13 → k < length (set (set a i x) j y)
 below-sets a i x j y k h l = omega (arith, length-set (set a i x) j y, length-set a i x)
 
-pub fields-set : (a : List ℕ) (k v : ℕ) → 15 ≤ length a → k < 15 → fields (set a k v) ≡ state-from (with k v (numbers a))
+pub fields-set : (a : List ℕ) (k v : ℕ) → 13 ≤ length a → k < 13 → fields (set a k v) ≡ state-from (with k v (numbers a))
 unfolding fields
 fields-set a k v h i = ap state-from (stored a k v (below a k h i))
 
-pub fields-sets : (a : List ℕ) (i x j y k z : ℕ) → 15 ≤ length a → i < 15 → j < 15 → k < 15
+pub fields-sets : (a : List ℕ) (i x j y k z : ℕ) → 13 ≤ length a → i < 13 → j < 13 → k < 13
     → fields (set (set (set a i x) j y) k z) ≡ state-from (with k z (with j y (with i x (numbers a))))
 unfolding fields
 fields-sets a i x j y k z h u v w =
@@ -89,12 +88,8 @@ module _ (a : List ℕ) where
   unfolding fields
   atomicity-is x e = e
 
-  pub cause-is : (c : Cause) (l : ℕ) → l ≡ getD a 14 0 % 4294967296 → c ≡ cause-of (getD a 13 0) l → c ≡ fields a .cause
-  unfolding fields
-  cause-is c l e h = h ∙ ap (cause-of (getD a 13 0)) e
-
 -- ── Each field, stored ──
-module _ (a : List ℕ) (h : 15 ≤ length a) where
+module _ (a : List ℕ) (h : 13 ≤ length a) where
   pub position-set : (p : BytePosition) → fields (set a 0 (p .0)) ≡ Fields.set-position p (fields a)
   unfolding fields
   position-set p = fields-set a 0 (p .0) h (omega arith)
@@ -125,16 +120,6 @@ module _ (a : List ℕ) (h : 15 ≤ length a) where
   unfolding fields
   atomicity-set x n e = fields-set a 12 n h (omega arith) ∙ ap (λ (y : Atomicity). Fields.set-atomicity y (fields a)) e
 
-  pub cause-set : (c : Cause) (n l : ℕ) → l < 4294967296 → cause-of n l ≡ c → fields (set (set a 13 n) 14 l) ≡ Fields.set-cause c (fields a)
-  unfolding fields
-  cause-set c n l b e =
-      ap state-from (stored (set a 13 n) 14 l (below-set a 13 n 14 h (omega arith)) ∙ ap (with 14 l) (stored a 13 n (below a 13 h (omega arith))))
-      ∙ ap (λ (x : ℕ). Fields.set-cause (cause-of n x) (fields a)) (small l b)
-      ∙ ap (λ (x : Cause). Fields.set-cause x (fields a)) e
-    where
-      small : (x : ℕ) → x < 4294967296 → x % 4294967296 ≡ x
-      small x k = omega arith
-
 -- ── Enums as numbers: the code's tests of a number, in the definition's order ──
 pub by-first : {A : Type 0} (n : ℕ) (x r : A) → n ≡ 1 → x ≡ (if eqb n 1 then x else r)
 by-first n x r e = simp (eq-eqb n 1 e)
@@ -144,9 +129,3 @@ by-second n x y r e = simp (ne-eqb n 1 (λ f. omega arith), eq-eqb n 2 e)
 
 pub by-neither : {A : Type 0} (n : ℕ) (x y r : A) → (n ≡ 1 → ⊥) → (n ≡ 2 → ⊥) → r ≡ (if eqb n 1 then x else if eqb n 2 then y else r)
 by-neither n x y r f g = simp (ne-eqb n 1 f, ne-eqb n 2 g)
-
-pub by-third : {A : Type 0} (n : ℕ) (x y z r : A) → n ≡ 3 → z ≡ (if eqb n 1 then x else if eqb n 2 then y else if eqb n 3 then z else r)
-by-third n x y z r e = simp (ne-eqb n 1 (λ f. omega arith), ne-eqb n 2 (λ f. omega arith), eq-eqb n 3 e)
-
-pub by-fourth : {A : Type 0} (n : ℕ) (x y z r : A) → (n ≡ 1 → ⊥) → (n ≡ 2 → ⊥) → (n ≡ 3 → ⊥) → r ≡ (if eqb n 1 then x else if eqb n 2 then y else if eqb n 3 then z else r)
-by-fourth n x y z r f g h = simp (ne-eqb n 1 f, ne-eqb n 2 g, ne-eqb n 3 h)

@@ -29,7 +29,6 @@ use Rattle.checks.specs.declared.node.Index.{Index}
 use Rattle.engine.specs.declared.stack_match.MatchPopped.{MatchPopped}
 use Rattle.engine.specs.Fields as Fields
 use Rattle.engine.specs.Fields.{ParserState}
-use Rattle.reading.specs.declared.parser_state.Cause.{Cause}
 use Rattle.reading.specs.declared.parser_state.Cause.the-variants.{EmptyStack, StackFull}
 use Rattle.reading.specs.Ending.{if_then_else_, Ending, Ok, Err, Stop, stop-if, Span}
 use Rattle.reading.specs.Reading.{debt}
@@ -96,11 +95,6 @@ moved-not m s e tokens scratch = rw e
 matched-back : (o : Option ℕ) → match-of (matched o) ≡ o
 matched-back none = refl
 matched-back (some p) = refl
-
--- A stop that the code wrote.
-pub stopping : (b : List ℕ) (s : ParserState) (z : Code·ending.Ending) {c : Cause} {f : List ℕ → Ending Pest.ParserState} {o : Type 0} → ((tokens scratch : List ℕ) → view-end tokens scratch s z ≡ Stop c)
-    → ((tokens : List ℕ) → Stop c ≡ f tokens) × o → ((tokens : List ℕ) → view-end tokens b s z ≡ f tokens) × o
-stopping b s z h e = (λ tokens. h tokens b ∙ e .0 tokens, e .1)
 
 -- ── stack_push ──
 module _ {a b : List ℕ} {s : ParserState} (r : StateReady a s) {v : Stack} (ev : v ≡ s .stack) {y : BytePosition} (ey : y ≡ s .position)

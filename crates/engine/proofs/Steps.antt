@@ -67,7 +67,7 @@ passed-test true e = refl
 passed-test false e = absurd (true≢false e)
 
 -- The state's area keeps its size.
-pub wide-on : {n k : ℕ} → 15 ≤ n → k ≡ n → 15 ≤ k
+pub wide-on : {n k : ℕ} → 13 ≤ n → k ≡ n → 13 ≤ k
 wide-on h e = omega arith
 
 -- ── An entry ──
@@ -135,7 +135,7 @@ ahead-of x (keeps-err n y) e = tt
 ahead-of x (keeps-stop c) e = tt
 
 -- The measure falls from a combinator to its body.
-pub down : (d body n t : ℕ) → 1 ≤ d → body ≤ n → n ≤ 4096 → d * 4099 ≡ t → (d - 1) * 4099 + body + 2 < t
+pub down : (d body n t : ℕ) → 1 ≤ d → body ≤ n → n ≤ 4096 → d * 8196 ≡ t → (d - 1) * 8196 + body * 2 + 3 < t
 down d body n t h k l e = omega arith
 
 -- What the tests of a run give the laws of the evaluation.
@@ -247,12 +247,12 @@ module _ (ns : List ℤ) (literals text : List ℕ) (capacity : ℕ) where
     pub end-ready : (n : ℕ) (s : Code.ParserState) (r : Coded.Ending) → LeftFrom g m (view-end tokens scratch s r) → n ≤ length (m .queue) → EndReady scratch n s r
     end-ready n s Coded-of.Ok w h = (ready-after s w, omega (arith, grown-after s w))
     end-ready n s Coded-of.Err w h = (ready-after s w, omega (arith, grown-after s w))
-    end-ready n s Coded-of.Stop w h = tt
+    end-ready n s (Coded-of.Stop c) w h = tt
 
     pub push-ready : (start : BytePosition) (s : Code.ParserState) (r : Coded.Ending) → LeftFrom g m (view-end tokens scratch s r) → length text ≤ 65535 → start .0 ≤ length text → PushEndReady scratch start s r
     push-ready start s Coded-of.Ok w h i = record { state = ready-after s w; from = omega arith; to = omega (arith, w .fit .edge .inside) }
     push-ready start s Coded-of.Err w h i = tt
-    push-ready start s Coded-of.Stop w h i = tt
+    push-ready start s (Coded-of.Stop c) w h i = tt
 
     tracking-after : (s : Code.ParserState) → LeftFrom g m (Ok (view tokens scratch s)) → Tracking scratch s
     tracking-after s w =
@@ -263,7 +263,7 @@ module _ (ns : List ℤ) (literals text : List ℕ) (capacity : ℕ) where
         → RuleEndReady tokens scratch capacity i s r
     rule-ready i s Coded-of.Ok w area small short h = (record { room = area; most = small; near = omega (arith, w .fit .edge .inside) }, tracking-after s w, h)
     rule-ready i s Coded-of.Err w area small short h = tracking-after s w
-    rule-ready i s Coded-of.Stop w area small short h = tt
+    rule-ready i s (Coded-of.Stop c) w area small short h = tt
 
   -- ── Each combinator: its own words over what the code's parts answer ──
   module _ (d body : ℕ) (m n : ParserState) where

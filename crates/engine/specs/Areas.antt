@@ -93,4 +93,4 @@ view tokens scratch s = record {
 abbrev pub view-end : (tokens scratch : List ℕ) → ParserState → Ending → Model.Ending Pest.ParserState
 view-end tokens scratch s Code.Ok = Model.Ok (view tokens scratch s)
 view-end tokens scratch s Code.Err = Model.Err (view tokens scratch s)
-view-end tokens scratch s Code.Stop = Model.Stop (s .cause)
+view-end tokens scratch s (Code.Stop c) = Model.Stop c

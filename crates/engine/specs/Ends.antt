@@ -16,13 +16,13 @@ use Rattle.engine.specs.Rule.{Recording, Tracking}
 abbrev pub EndReady : (scratch : List ℕ) → (n : ℕ) → State.ParserState → Declared.Ending → Type 0
 EndReady a n s Code.Ok = StateReady a s × (n ≤ s .queue .0)
 EndReady a n s Code.Err = StateReady a s × (n ≤ s .queue .0)
-EndReady a n s Code.Stop = Unit {0}
+EndReady a n s (Code.Stop c) = Unit {0}
 
 -- Of a push: only a matched body's span is pushed.
 abbrev pub PushEndReady : (scratch : List ℕ) → (start : BytePosition) → State.ParserState → Declared.Ending → Type 0
 PushEndReady a start s Code.Ok = PushReady a start s
 PushEndReady a start s Code.Err = Unit {0}
-PushEndReady a start s Code.Stop = Unit {0}
+PushEndReady a start s (Code.Stop c) = Unit {0}
 
 -- Of a rule that matched: it may track an attempt and write its End.
 abbrev pub RuleOkReady : (tokens scratch : List ℕ) → (capacity index : ℕ) → State.ParserState → Type 0
@@ -32,7 +32,7 @@ RuleOkReady t a capacity i s = Recording t capacity s × Tracking a s × (i ≤ 
 abbrev pub RuleEndReady : (tokens scratch : List ℕ) → (capacity index : ℕ) → State.ParserState → Declared.Ending → Type 0
 RuleEndReady t a capacity i s Code.Ok = RuleOkReady t a capacity i s
 RuleEndReady t a capacity i s Code.Err = Tracking a s
-RuleEndReady t a capacity i s Code.Stop = Unit {0}
+RuleEndReady t a capacity i s (Code.Stop c) = Unit {0}
 
 -- `atomic`, after its body: the atomicity is toggled back, which is to set it.
 abbrev pub atomic-back : Atomicity → Ending ParserState → Ending ParserState

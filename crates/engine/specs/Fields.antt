@@ -1,7 +1,7 @@
 -- pest's `ParserState` as the code holds it: its fields, and how the numbers of one lent area stand for them. Where pest has a Vec, the
--- field counts what stands in an area (Areas). `cause`, which pest has not: why the evaluation stopped, if it did.
+-- field counts what stands in an area (Areas).
 use mathlib.Core.List.{List}
-use Prim.Native.Nat.{ℕ, _%_}
+use Prim.Native.Nat.{ℕ}
 use lib.ListN.{getD}
 use lib.Dec.{eqb}
 use Rattle.matching.specs.declared.position.BytePosition.{BytePosition}
@@ -10,8 +10,6 @@ use Rattle.reading.specs.declared.parser_state.Lookahead.{Lookahead}
 use Rattle.reading.specs.declared.parser_state.Lookahead.the-variants as Looks
 use Rattle.reading.specs.declared.parser_state.Atomicity.{Atomicity}
 use Rattle.reading.specs.declared.parser_state.Atomicity.the-variants as Atoms
-use Rattle.reading.specs.declared.parser_state.Cause.{Cause}
-use Rattle.reading.specs.declared.parser_state.Cause.the-variants as Causes
 use Rattle.reading.specs.declared.call_limit_tracker.LimitKind.the-variants as Kinds
 use Rattle.checks.specs.declared.call_limit_tracker.LimitReached.{LimitReached}
 use Rattle.checks.specs.declared.call_limit_tracker.LimitReached.the-variants.{No, By}
@@ -28,7 +26,6 @@ pub record ParserState : Type 0 where
   pub tracker : CallLimitTracker
   pub lookahead : Lookahead
   pub atomicity : Atomicity
-  pub cause : Cause
 
 -- ── Enums as numbers ──
 abbrev pub lookahead-of : ℕ → Lookahead
@@ -40,14 +37,11 @@ atomicity-of n = if eqb n 1 then Atoms.Atomic else if eqb n 2 then Atoms.Compoun
 abbrev pub reached-of : ℕ → LimitReached
 reached-of n = if eqb n 1 then By Kinds.Call else if eqb n 2 then By Kinds.Stack else No
 
-abbrev pub cause-of : (number line : ℕ) → Cause
-cause-of n l = if eqb n 1 then Causes.EmptyStack l else if eqb n 2 then Causes.TokensFull l else if eqb n 3 then Causes.StackFull l else Causes.AttemptsFull l
-
 -- ── The numbers of a state ──
 abbrev pub state-size : ℕ
-state-size = 15
+state-size = 13
 
--- The state whose numbers are those of n. (A cause's line has 32 bits in the code.)
+-- The state whose numbers are those of n.
 abbrev pub state-from : (ℕ → ℕ) → ParserState
 state-from n = record {
   position = record { 0 = n 0 };
@@ -57,7 +51,6 @@ state-from n = record {
   tracker = record { current = n 8; limit = n 9; reached = reached-of (n 10) };
   lookahead = lookahead-of (n 11);
   atomicity = atomicity-of (n 12);
-  cause = cause-of (n 13) (n 14 % 4294967296);
 }
 
 unfoldable pub fields : (state : List ℕ) → ParserState
@@ -65,25 +58,22 @@ fields a = state-from (λ i. getD a i 0)
 
 -- ── One field changed ──
 abbrev pub set-position : BytePosition → ParserState → ParserState
-set-position p s = record { position = p; queue = s .queue; attempts = s .attempts; stack = s .stack; tracker = s .tracker; lookahead = s .lookahead; atomicity = s .atomicity; cause = s .cause }
+set-position p s = record { position = p; queue = s .queue; attempts = s .attempts; stack = s .stack; tracker = s .tracker; lookahead = s .lookahead; atomicity = s .atomicity }
 
 abbrev pub set-queue : TokenIndex → ParserState → ParserState
-set-queue n s = record { position = s .position; queue = n; attempts = s .attempts; stack = s .stack; tracker = s .tracker; lookahead = s .lookahead; atomicity = s .atomicity; cause = s .cause }
+set-queue n s = record { position = s .position; queue = n; attempts = s .attempts; stack = s .stack; tracker = s .tracker; lookahead = s .lookahead; atomicity = s .atomicity }
 
 abbrev pub set-attempts : Attempts → ParserState → ParserState
-set-attempts t s = record { position = s .position; queue = s .queue; attempts = t; stack = s .stack; tracker = s .tracker; lookahead = s .lookahead; atomicity = s .atomicity; cause = s .cause }
+set-attempts t s = record { position = s .position; queue = s .queue; attempts = t; stack = s .stack; tracker = s .tracker; lookahead = s .lookahead; atomicity = s .atomicity }
 
 abbrev pub set-stack : Stack → ParserState → ParserState
-set-stack v s = record { position = s .position; queue = s .queue; attempts = s .attempts; stack = v; tracker = s .tracker; lookahead = s .lookahead; atomicity = s .atomicity; cause = s .cause }
+set-stack v s = record { position = s .position; queue = s .queue; attempts = s .attempts; stack = v; tracker = s .tracker; lookahead = s .lookahead; atomicity = s .atomicity }
 
 abbrev pub set-tracker : CallLimitTracker → ParserState → ParserState
-set-tracker t s = record { position = s .position; queue = s .queue; attempts = s .attempts; stack = s .stack; tracker = t; lookahead = s .lookahead; atomicity = s .atomicity; cause = s .cause }
+set-tracker t s = record { position = s .position; queue = s .queue; attempts = s .attempts; stack = s .stack; tracker = t; lookahead = s .lookahead; atomicity = s .atomicity }
 
 abbrev pub set-lookahead : Lookahead → ParserState → ParserState
-set-lookahead l s = record { position = s .position; queue = s .queue; attempts = s .attempts; stack = s .stack; tracker = s .tracker; lookahead = l; atomicity = s .atomicity; cause = s .cause }
+set-lookahead l s = record { position = s .position; queue = s .queue; attempts = s .attempts; stack = s .stack; tracker = s .tracker; lookahead = l; atomicity = s .atomicity }
 
 abbrev pub set-atomicity : Atomicity → ParserState → ParserState
-set-atomicity a s = record { position = s .position; queue = s .queue; attempts = s .attempts; stack = s .stack; tracker = s .tracker; lookahead = s .lookahead; atomicity = a; cause = s .cause }
-
-abbrev pub set-cause : Cause → ParserState → ParserState
-set-cause c s = record { position = s .position; queue = s .queue; attempts = s .attempts; stack = s .stack; tracker = s .tracker; lookahead = s .lookahead; atomicity = s .atomicity; cause = c }
+set-atomicity a s = record { position = s .position; queue = s .queue; attempts = s .attempts; stack = s .stack; tracker = s .tracker; lookahead = s .lookahead; atomicity = a }

@@ -1,4 +1,5 @@
 pub mod Fields
+pub mod Packed
 pub mod Areas
 pub mod Pairs
 pub mod Bounded

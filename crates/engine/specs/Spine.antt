@@ -49,7 +49,7 @@ below ns l = if eqb (kind-at ns l) 6 || eqb (kind-at ns l) 7 then left-of ns l e
 unfoldable pub goes : (kind : ℕ) → Ending → Bool
 goes k Ok = eqb k 6
 goes k Err = eqb k 7
-goes k Stop = false
+goes k (Stop c) = false
 
 -- An ending that is no stop.
 abbrev pub ending-of : (good : Bool) → Ending

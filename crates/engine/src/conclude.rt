@@ -2,7 +2,6 @@
 use crate::attempts::Attempts;
 use crate::attempts::write_report;
 use crate::fields::attempts;
-use crate::fields::cause;
 use crate::fields::queue;
 use crate::fields::tracker;
 use crate::parser_state::Ending;
@@ -26,7 +25,7 @@ ghost use Rattle.engine.specs.Report.{Reportable};
 ghost use Rattle.reading.specs.Outcome as Answers;
 ghost use Rattle.reading.specs.Outcome.{laid, ascending};
 ghost use Rattle.reading.specs.Answer.{pest-answer};
-ghost use Rattle.engine.specs.Conclude.{outcome-of, ended-of, Concluding, ConcludeReady};
+ghost use Rattle.engine.specs.Conclude.{outcome-of, Concluding, ConcludeReady};
 
 // "tokens, report zeroed"
 fn stopped(tokens: &mut [u32], report: &mut [u32], number: u32, place: u32) -> Outcome
@@ -132,24 +131,6 @@ fn of_err(tokens: &mut [u32], scratch: &[u32], report: &mut [u32], s: &[usize]) 
     }
 }
 
-// "Evaluation ends Ok, Err, or in a stop that names its cause": the ending of a run, with the cause that the state holds.
-pub enum Ended {
-    Ok,
-    Err,
-    Stop(Cause),
-}
-
-fn with_cause(s: &[usize], r: Ending) -> Ended
-    requires { ⌜ state-size ≤ length (now s) ⌝ }
-    ensures { λ e. ⌜ e ≡ ended-of (fields (now (s .entry))) r ⌝ }
-{
-    match r {
-        Ending::Ok => Ended::Ok,
-        Ending::Err => Ended::Err,
-        Ending::Stop => Ended::Stop(cause(s)),
-    }
-}
-
 // The answer to an ending, from the state that it left.
 pub(crate) fn conclude(
     tokens: &mut [u32],
@@ -162,9 +143,9 @@ pub(crate) fn conclude(
     requires { ⌜ ConcludeReady (now tokens) (now scratch) (now report) (fields (now s)) r ⌝ }
     ensures { λ o. ⌜ outcome-of o (now (tokens .exit)) (now (report .exit)) ≡ laid (length (now (tokens .entry))) (length (now (report .entry))) (pest-answer (view-end (now (tokens .entry)) (now (scratch .entry)) (fields (now (s .entry))) r)) ⌝ }
 {
-    match with_cause(s, r) {
-        Ended::Ok => of_ok(tokens, scratch, report, s),
-        Ended::Err => of_err(tokens, scratch, report, s),
-        Ended::Stop(cause) => of_cause(tokens, report, cause),
+    match r {
+        Ending::Ok => of_ok(tokens, scratch, report, s),
+        Ending::Err => of_err(tokens, scratch, report, s),
+        Ending::Stop(cause) => of_cause(tokens, report, cause),
     }
 }

@@ -55,7 +55,7 @@ pub(crate) fn sequence_end(
             restored(scratch, s);
             Ending::Err
         }
-        Ending::Stop => Ending::Stop,
+        Ending::Stop(c) => Ending::Stop(c),
     }
 }
 
@@ -74,7 +74,7 @@ pub(crate) fn restore_on_err_end(scratch: &mut [u32], s: &mut [usize], r: Ending
             restored(scratch, s);
             Ending::Err
         }
-        Ending::Stop => Ending::Stop,
+        Ending::Stop(c) => Ending::Stop(c),
     }
 }
 
@@ -97,7 +97,7 @@ pub(crate) fn optional_end(s: &[usize], r: Ending) -> Ending
     match r {
         Ending::Ok => Ending::Ok,
         Ending::Err => forgiven(s),
-        Ending::Stop => Ending::Stop,
+        Ending::Stop(c) => Ending::Stop(c),
     }
 }
 
@@ -148,7 +148,7 @@ pub(crate) fn lookahead_end(
             back_to(scratch, s, position, lookahead);
             looked(s, !positive)
         }
-        Ending::Stop => Ending::Stop,
+        Ending::Stop(c) => Ending::Stop(c),
     }
 }
 
@@ -176,7 +176,7 @@ pub(crate) fn push_end(
     match r {
         Ending::Ok => stack_push_end(scratch, s, line, start),
         Ending::Err => Ending::Err,
-        Ending::Stop => Ending::Stop,
+        Ending::Stop(c) => Ending::Stop(c),
     }
 }
 
@@ -200,7 +200,7 @@ fn rule_ok(
     match track_rule(scratch, s, due, line, rule, position, n) {
         Ending::Ok => close_rule(tokens, s, room, line, rule, index),
         Ending::Err => Ending::Err,
-        Ending::Stop => Ending::Stop,
+        Ending::Stop(c) => Ending::Stop(c),
     }
 }
 
@@ -225,7 +225,7 @@ fn rule_err(
             Ending::Err
         }
         Ending::Err => Ending::Err,
-        Ending::Stop => Ending::Stop,
+        Ending::Stop(c) => Ending::Stop(c),
     }
 }
 
@@ -249,6 +249,6 @@ pub(crate) fn rule_end(
     match r {
         Ending::Ok => rule_ok(tokens, scratch, s, room, line, rule, position, index, n),
         Ending::Err => rule_err(scratch, s, line, rule, position, index, n),
-        Ending::Stop => Ending::Stop,
+        Ending::Stop(c) => Ending::Stop(c),
     }
 }

@@ -1,21 +1,17 @@
 // The entry of a combinator: pest's `inc_call_check_limit` and `check_stack_limit`.
-use crate::fields::set_cause;
 use crate::fields::set_tracker;
 use crate::fields::tracker;
-use crate::parser_state::Ending;
 use checks::call_limit_tracker::Admitted;
 use checks::call_limit_tracker::LimitReached;
 use checks::call_limit_tracker::entered;
-use reading::parser_state::Cause;
 ghost use mathlib.Core.Path.{_≡_};
 ghost use mathlib.Core.List.{List};
 ghost use Prim.Native.Nat.{ℕ, _≤_};
 ghost use lib.Dec.{ltb};
 ghost use lib.ListN.{length};
-ghost use Rattle.reading.specs.Ending as Model;
 ghost use Rattle.reading.specs.Pest as Pest;
 ghost use Rattle.engine.specs.Fields.{state-size, fields};
-ghost use Rattle.engine.specs.Areas.{view, view-end};
+ghost use Rattle.engine.specs.Areas.{view};
 ghost use Rattle.engine.specs.Entry.{entering, view-entry};
 
 // Whether the call is let in. `depth`: how many more calls may be open.
@@ -35,15 +31,6 @@ pub(crate) fn enter(s: &mut [usize], counted: bool, depth: usize) -> bool
             false
         }
     }
-}
-
-// A stop: why, and at which line, is written into the state.
-pub(crate) fn stop(s: &mut [usize], c: Cause) -> Ending
-    requires { ⌜ state-size ≤ length (now s) ⌝ }
-    ensures { λ r. ⌜ ((tokens scratch : List ℕ) → view-end tokens scratch (fields (now (s .exit))) r ≡ Model.Stop c) ⌝ }
-{
-    set_cause(s, c);
-    Ending::Stop
 }
 
 // Whether a limit cause is set.

@@ -8,13 +8,12 @@ use matching::position::BytePosition;
 use matching::position::TokenIndex;
 use reading::call_limit_tracker::LimitKind;
 use reading::parser_state::Atomicity;
-use reading::parser_state::Cause;
 use reading::parser_state::Lookahead;
 ghost use mathlib.Core.Path.{_≡_};
 ghost use Prim.Native.Nat.{_≤_};
 ghost use lib.ListN.{length};
 ghost use Rattle.checks.specs.declared.call_limit_tracker.LimitReached.the-variants as Reached;
-ghost use Rattle.engine.specs.Fields.{state-size, fields, lookahead-of, atomicity-of, reached-of, cause-of, set-position, set-queue, set-attempts, set-stack, set-tracker, set-lookahead, set-atomicity, set-cause};
+ghost use Rattle.engine.specs.Fields.{state-size, fields, lookahead-of, atomicity-of, reached-of, set-position, set-queue, set-attempts, set-stack, set-tracker, set-lookahead, set-atomicity};
 
 // Where each field stands.
 pub const POSITION: usize = 0;
@@ -44,12 +43,7 @@ pub const LOOKAHEAD: usize = 11;
 
 pub const ATOMICITY: usize = 12;
 
-// Why the evaluation stopped: its number, and the line that it names.
-pub const CAUSE: usize = 13;
-
-pub const LINE: usize = 14;
-
-pub const STATE_SIZE: usize = 15;
+pub const STATE_SIZE: usize = 13;
 
 // ── Enums as numbers: the readers are total, so that no caller has to know what stands in the area ──
 fn lookahead_of(n: usize) -> Lookahead
@@ -117,34 +111,6 @@ fn reached_number(r: LimitReached) -> usize
     match r {
         LimitReached::No => 0,
         LimitReached::By(k) => limit_number(k),
-    }
-}
-
-fn cause_of(n: usize, line: u32) -> Cause
-    ensures { λ r. ⌜ r ≡ cause-of n line ⌝ }
-{
-    match n {
-        1 => Cause::EmptyStack(line),
-        2 => Cause::TokensFull(line),
-        3 => Cause::StackFull(line),
-        _ => Cause::AttemptsFull(line),
-    }
-}
-
-// A cause's number, and the line that it names.
-struct NumberedCause {
-    number: usize,
-    line: u32,
-}
-
-fn numbered(c: Cause) -> NumberedCause
-    ensures { λ r. ⌜ cause-of (r .number) (r .line) ≡ c ⌝ }
-{
-    match c {
-        Cause::EmptyStack(line) => NumberedCause { number: 1, line },
-        Cause::TokensFull(line) => NumberedCause { number: 2, line },
-        Cause::StackFull(line) => NumberedCause { number: 3, line },
-        Cause::AttemptsFull(line) => NumberedCause { number: 0, line },
     }
 }
 
@@ -277,21 +243,4 @@ pub(crate) fn set_atomicity(s: &mut [usize], a: Atomicity)
 {
     let number = atomicity_number(a);
     s[ATOMICITY] = number;
-}
-
-pub(crate) fn cause(s: &[usize]) -> Cause
-    requires { ⌜ state-size ≤ length (now s) ⌝ }
-    ensures { λ r. ⌜ r ≡ fields (now (s .entry)) .cause ⌝ }
-{
-    let line = s[LINE] % 4294967296;
-    cause_of(s[CAUSE], line as u32)
-}
-
-pub(crate) fn set_cause(s: &mut [usize], c: Cause)
-    requires { ⌜ state-size ≤ length (now s) ⌝ }
-    ensures { λ _. ⌜ fields (now (s .exit)) ≡ set-cause c (fields (now (s .entry))) ⌝ }
-{
-    let n = numbered(c);
-    s[CAUSE] = n.number;
-    s[LINE] = n.line as usize;
 }

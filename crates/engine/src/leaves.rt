@@ -75,7 +75,7 @@ pub(crate) fn leaf<'a>(
     }
 }
 
-// A line that is no fork: a leaf is done.
+// A line that is no fork: a leaf is done. (`[..]` here and below: see `node`.)
 fn last<'a>(nodes: &[i32], literals: &'a [u8], text: &'a [u8], line: usize, p: BytePosition) -> Halt
     requires { ⌜ (misfit (now nodes) (now literals) ≡ none) × (still-repeat (now nodes) ≡ none) ⌝ }
     requires { ⌜ Line (now nodes) line ⌝ }
@@ -85,7 +85,7 @@ fn last<'a>(nodes: &[i32], literals: &'a [u8], text: &'a [u8], line: usize, p: B
     if 5 < n.kind {
         return halted(line, p);
     }
-    match leaf(nodes, literals, text, line, p) {
+    match leaf(&nodes[..], &literals[..], &text[..], line, p) {
         Matched::At(q) => finished(line, q, true),
         Matched::Failed => finished(line, p, false),
     }
@@ -114,7 +114,7 @@ pub(crate) fn walk<'a>(
         if 5 < m.kind {
             return halted(at, position);
         }
-        match leaf(nodes, literals, text, n.a, position) {
+        match leaf(&nodes[..], &literals[..], &text[..], n.a, position) {
             Matched::At(q) => {
                 if n.kind == 7 {
                     return finished(at, q, true);

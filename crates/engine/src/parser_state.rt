@@ -20,6 +20,8 @@ use crate::leaves::leaf;
 use crate::leaves::walk;
 use crate::node::ends_at;
 use crate::node::line_at;
+use crate::packed::packed;
+use crate::packed::unpacked;
 use crate::rule::start_rule;
 use crate::rule::tag_node;
 use crate::spine::descend;
@@ -32,6 +34,7 @@ use crate::stack_state::stack_match_peek_slice;
 use crate::stack_state::stack_match_pop;
 use crate::stack_state::stack_pop;
 use reading::parser_state::Atomicity;
+use reading::parser_state::Cause;
 use reading::parser_state::Lookahead;
 ghost use mathlib.Core.Path.{_≡_};
 ghost use mathlib.Core.Bool.{true, false};
@@ -43,14 +46,15 @@ ghost use Rattle.reading.specs.Grammar.{kind-at, tree-at, atomicity-of};
 ghost use Rattle.reading.specs.Pest as Pest;
 ghost use Rattle.engine.specs.Fields.{state-size, fields};
 ghost use Rattle.engine.specs.Areas.{view, view-end};
+ghost use Rattle.engine.specs.Packed.{unpacked};
 ghost use Rattle.engine.specs.Spine.{Fork, below};
 ghost use Rattle.engine.specs.Evaluation.{Ready, Line, evaluated, opens-call};
 
-// "Evaluation ends Ok, Err, or in a stop that names its cause." The state that it left, and the cause in it, stand where they were lent.
+// "Evaluation ends Ok, Err, or in a stop that names its cause." The state that Ok and Err left stands where it was lent.
 pub enum Ending {
     Ok,
     Err,
-    Stop,
+    Stop(Cause),
 }
 
 // "b 0 Atomic, 1 CompoundAtomic, 2 NonAtomic"
@@ -118,7 +122,7 @@ fn terminal<'a>(
         19 => tag_node(tokens, s, n.a as u32),
         _ => {
             let p = position(s);
-            moved(s, leaf(nodes, literals, text, line, p))
+            moved(s, leaf(&nodes[..], &literals[..], &text[..], line, p))
         }
     }
 }
@@ -126,10 +130,9 @@ fn terminal<'a>(
 // ── The evaluation: the combinators and `node` call one another. Each call of `node` has less depth left, or a lower line. `s` is the
 // state (fields.rt), `room` how many tokens the area has room for, `depth` how many more calls may be open. ──
 
-// The line. Kinds 6 and 7 are walked here: a fork's left side, and then, if it ended as the kind asks, its right side as the loop's next
-// line, so that no native stack is taken for it. (Each function of the cycle but this one has one caller, so that the compiler makes one
-// function of them all: an open call then takes one frame.)
-pub(crate) fn node<'a>(
+// The line. `packed_node` is the one call that the compiler leaves in the cycle, and its number becomes the ending here, at each caller.
+// (`[..]`: a slice that is handed on as it is is copied in one piece, and the copy waits until its two words are written.)
+fn node<'a>(
     nodes: &[i32],
     literals: &'a [u8],
     text: &'a [u8],
@@ -144,6 +147,38 @@ pub(crate) fn node<'a>(
     requires { ⌜ Line (now nodes) line ⌝ }
     ensures { λ r. ⌜ view-end (now (tokens .exit)) (now (scratch .exit)) (fields (now (s .exit))) r ≡ evaluated (now (nodes .entry)) (now (literals .entry)) (now (text .entry)) room depth (tree-at (now (nodes .entry)) (now (literals .entry)) line) (view (now (tokens .entry)) (now (scratch .entry)) (fields (now (s .entry)))) ⌝ }
 {
+    unpacked(packed_node(
+        &nodes[..],
+        &literals[..],
+        &text[..],
+        tokens,
+        scratch,
+        s,
+        room,
+        depth,
+        line,
+    ))
+}
+
+// The line, and its ending as a number. Kinds 6 and 7 are walked here: a fork's left side, and then, if it ended as the kind asks, its
+// right side as the loop's next line, so that no native stack is taken for it. (Each other function of the cycle but `node` has one
+// caller, so that the compiler makes one function of them all: an open call then takes one frame. This one has two, `node` and the run, so
+// that it is not made a part of `node`, which answers an enum.)
+pub(crate) fn packed_node<'a>(
+    nodes: &[i32],
+    literals: &'a [u8],
+    text: &'a [u8],
+    tokens: &mut [u32],
+    scratch: &mut [u32],
+    s: &mut [usize],
+    room: usize,
+    depth: usize,
+    line: usize,
+) -> usize
+    requires { ⌜ Ready (now nodes) (now literals) (now text) (now tokens) (now scratch) room depth (view (now tokens) (now scratch) (fields (now s))) × (state-size ≤ length (now s)) ⌝ }
+    requires { ⌜ Line (now nodes) line ⌝ }
+    ensures { λ r. ⌜ view-end (now (tokens .exit)) (now (scratch .exit)) (fields (now (s .exit))) (unpacked r) ≡ evaluated (now (nodes .entry)) (now (literals .entry)) (now (text .entry)) room depth (tree-at (now (nodes .entry)) (now (literals .entry)) line) (view (now (tokens .entry)) (now (scratch .entry)) (fields (now (s .entry)))) ⌝ }
+{
     let mut at = line;
     loop {
         let p = position(s);
@@ -151,13 +186,13 @@ pub(crate) fn node<'a>(
         let q = w.position;
         set_position(s, q);
         if w.done {
-            return ended(w.good);
+            return packed(ended(w.good));
         }
         at = w.line;
         let n = line_at(nodes, at);
         let e = left_side(nodes, literals, text, tokens, scratch, s, room, depth, at);
         if !goes_right(n.kind, e) {
-            return e;
+            return packed(e);
         }
         at = n.b;
     }
@@ -270,7 +305,7 @@ fn rule<'a>(
             rule_end(tokens, scratch, s, room, at, number, p, q, noted, r)
         }
         Ending::Err => Ending::Err,
-        Ending::Stop => Ending::Stop,
+        Ending::Stop(c) => Ending::Stop(c),
     }
 }
 
@@ -329,8 +364,8 @@ fn repeat<'a>(
             Ending::Err => {
                 return forgiven(s);
             }
-            Ending::Stop => {
-                return Ending::Stop;
+            Ending::Stop(c) => {
+                return Ending::Stop(c);
             }
         }
     }

@@ -2,7 +2,6 @@
 use crate::attempts::Noted;
 use crate::attempts::Tracked;
 use crate::attempts::track;
-use crate::entry::stop;
 use crate::fields::atomicity;
 use crate::fields::attempts;
 use crate::fields::lookahead;
@@ -91,7 +90,7 @@ pub(crate) fn start_rule(tokens: &mut [u32], s: &mut [usize], room: usize, line:
             set_queue(s, next);
             Ending::Ok
         } else {
-            stop(s, Cause::TokensFull(line))
+            Ending::Stop(Cause::TokensFull(line))
         }
     } else {
         Ending::Ok
@@ -125,7 +124,7 @@ pub(crate) fn track_rule(
                     set_attempts(s, u);
                     Ending::Ok
                 }
-                Tracked::Full => stop(s, Cause::AttemptsFull(line)),
+                Tracked::Full => Ending::Stop(Cause::AttemptsFull(line)),
             }
         }
     } else {
@@ -168,7 +167,7 @@ pub(crate) fn close_rule(
             set_queue(s, next);
             Ending::Ok
         } else {
-            stop(s, Cause::TokensFull(line))
+            Ending::Stop(Cause::TokensFull(line))
         }
     } else {
         Ending::Ok

@@ -65,7 +65,7 @@ pub(crate) fn goes_right(kind: usize, left: Ending) -> bool
     match left {
         Ending::Ok => kind == 6,
         Ending::Err => kind == 7,
-        Ending::Stop => false,
+        Ending::Stop(_) => false,
     }
 }
 

@@ -1,5 +1,4 @@
 // The combinators of pest's parser_state.rs over the state's stack: checkpoints, and document 01's kinds 14 to 17.
-use crate::entry::stop;
 use crate::fields::position;
 use crate::fields::set_position;
 use crate::fields::set_stack;
@@ -104,7 +103,7 @@ pub(crate) fn stack_push_end(
             set_stack(s, w);
             Ending::Ok
         }
-        Pushed::Full => stop(s, Cause::StackFull(line)),
+        Pushed::Full => Ending::Stop(Cause::StackFull(line)),
     }
 }
 
@@ -122,8 +121,8 @@ pub(crate) fn stack_pop(text: &[u8], scratch: &mut [u32], s: &mut [usize], line:
             set_stack(s, w);
             moved(s, match_string(text, p, as_bytes(text, x)))
         }
-        Popped::Empty => stop(s, Cause::EmptyStack(line)),
-        Popped::Full => stop(s, Cause::StackFull(line)),
+        Popped::Empty => Ending::Stop(Cause::EmptyStack(line)),
+        Popped::Full => Ending::Stop(Cause::StackFull(line)),
     }
 }
 
@@ -180,6 +179,6 @@ pub(crate) fn stack_match_pop(
             set_stack(s, w);
             Ending::Err
         }
-        MatchPopped::Full => stop(s, Cause::StackFull(line)),
+        MatchPopped::Full => Ending::Stop(Cause::StackFull(line)),
     }
 }

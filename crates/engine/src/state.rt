@@ -9,7 +9,8 @@ use crate::fields::set_position;
 use crate::fields::set_queue;
 use crate::fields::set_stack;
 use crate::fields::set_tracker;
-use crate::parser_state::node;
+use crate::packed::unpacked;
+use crate::parser_state::packed_node;
 use crate::stack::Stack;
 use checks::call_limit_tracker::CallLimitTracker;
 use checks::call_limit_tracker::LimitReached;
@@ -101,7 +102,7 @@ fn started<'a>(
     let depth = depth_limit as usize;
     let mut state = [0; STATE_SIZE];
     new(&mut state, call_limit);
-    let r = node(
+    let r = packed_node(
         nodes,
         literals,
         text,
@@ -112,7 +113,7 @@ fn started<'a>(
         depth,
         root,
     );
-    conclude(tokens, scratch, report, &state, r)
+    conclude(tokens, scratch, report, &state, unpacked(r))
 }
 
 // Document 01's run. A refused one leaves all areas.

@@ -32,8 +32,8 @@ back-to-requires-2 c κs =
 looked-requires-2 : tie.Need-looked-requires-2
 looked-requires-2 c κs = search needs
 
-enum-told-3 : tie.Need-enum-told-3
-enum-told-3 c = search needs
+enum-known-r : tie.Need-enum-known-r
+enum-known-r c = search needs
 
 same-length : tie.Need-same-length
 same-length c = search needs
@@ -58,7 +58,7 @@ returns-2 c =
     λ tokens. rw (c .before .before .before .before .before .before .before .before .before .enum-told2 .given .1) (c .looked2 .ensures tokens _ ∙ ap (looking (not (i .args .positive))) (c .before .before .before .before .before .before .back-to2 .ensures tokens) ∙ looking-not (i .args .positive) (restored (set-lookahead (i .args .lookahead) (set-position (i .args .position .0) (view tokens (i .args .scratch .now) (fields (i .args .s .now)))))))
 
 returns-3 : tie.Need-returns-3
-returns-3 c = λ tokens. rw (c .enum-told3 .given .1)
+returns-3 c = λ tokens. rw (c .before .r .given .1)
 
 pub lookahead-end-spec : {M : Type 1} → statement M
 lookahead-end-spec =
@@ -70,7 +70,7 @@ lookahead-end-spec =
     enum-told-2
     back-to-requires-2
     looked-requires-2
-    enum-told-3
+    enum-known-r
     same-length
     same-length-2
     returns

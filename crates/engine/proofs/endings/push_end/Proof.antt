@@ -15,8 +15,8 @@ stack-push-end-requires c κs = let i = c .before .before .before .before .befor
 enum-told-2 : tie.Need-enum-told-2
 enum-told-2 c = search needs
 
-enum-told-3 : tie.Need-enum-told-3
-enum-told-3 c = search needs
+enum-known-r : tie.Need-enum-known-r
+enum-known-r c = search needs
 
 same-length : tie.Need-same-length
 same-length c = search needs
@@ -31,7 +31,7 @@ returns-2 : tie.Need-returns-2
 returns-2 c = λ text tokens. rw (c .enum-told2 .given .1)
 
 returns-3 : tie.Need-returns-3
-returns-3 c = λ text tokens. rw (c .enum-told3 .given .1)
+returns-3 c = λ text tokens. rw (c .before .r .given .1)
 
 pub push-end-spec : {M : Type 1} → statement M
 push-end-spec =
@@ -40,7 +40,7 @@ push-end-spec =
     enum-told
     stack-push-end-requires
     enum-told-2
-    enum-told-3
+    enum-known-r
     same-length
     same-length-2
     returns

@@ -19,8 +19,8 @@ enum-told-2 c = search needs
 restored-requires : tie.Need-restored-requires
 restored-requires c κs = let i = c .before .before .before .before .before .before in (i .pre .0, subst (EndReady (i .args .scratch .now) 0 (fields (i .args .s .now))) (c .before .before .enum-told2 .given .1) (i .pre .1) .0)
 
-enum-told-3 : tie.Need-enum-told-3
-enum-told-3 c = search needs
+enum-known-r : tie.Need-enum-known-r
+enum-known-r c = search needs
 
 same-length : tie.Need-same-length
 same-length c = search needs
@@ -41,7 +41,7 @@ returns-2 : tie.Need-returns-2
 returns-2 c = λ tokens. rw (c .before .before .before .before .before .before .before .enum-told2 .given .1) (ap Err (c .before .before .before .before .restored .ensures .0 tokens))
 
 returns-3 : tie.Need-returns-3
-returns-3 c = λ tokens. rw (c .enum-told3 .given .1)
+returns-3 c = λ tokens. rw (c .before .r .given .1)
 
 pub restore-on-err-end-spec : {M : Type 1} → statement M
 restore-on-err-end-spec =
@@ -51,7 +51,7 @@ restore-on-err-end-spec =
     checkpoint-ok-requires
     enum-told-2
     restored-requires
-    enum-told-3
+    enum-known-r
     same-length
     same-length-2
     returns

@@ -18,8 +18,8 @@ enum-told-2 c = search needs
 rule-err-requires : tie.Need-rule-err-requires
 rule-err-requires c κs = let i = c .before .before .before .before .before .before .before in (i .pre .0, subst (RuleEndReady (i .args .tokens .now) (i .args .scratch .now) (i .args .room) (i .args .index .0) (fields (i .args .s .now))) (c .before .before .enum-told2 .given .1) (i .pre .1))
 
-enum-told-3 : tie.Need-enum-told-3
-enum-told-3 c = search needs
+enum-known-r : tie.Need-enum-known-r
+enum-known-r c = search needs
 
 same-length : tie.Need-same-length
 same-length c = search needs
@@ -43,7 +43,7 @@ returns-2 : tie.Need-returns-2
 returns-2 c = λ g h. rw (c .before .before .before .before .before .before .before .enum-told2 .given .1) (c .before .before .before .before .rule-err .ensures g (c .before .before .before .before .before .before .before .before .before .before .before .before .args .tokens .now))
 
 returns-3 : tie.Need-returns-3
-returns-3 c = λ g h. rw (c .enum-told3 .given .1)
+returns-3 c = λ g h. rw (c .before .r .given .1)
 
 pub rule-end-spec : {M : Type 1} → statement M
 rule-end-spec =
@@ -53,7 +53,7 @@ rule-end-spec =
     rule-ok-requires
     enum-told-2
     rule-err-requires
-    enum-told-3
+    enum-known-r
     same-length
     same-length-2
     same-length-3

@@ -27,8 +27,8 @@ drop-rule-requires c κs = search needs
 enum-told-2 : tie.Need-enum-told-2
 enum-told-2 c = search needs
 
-enum-told-3 : tie.Need-enum-told-3
-enum-told-3 c = search needs
+enum-known-c : tie.Need-enum-known-c
+enum-known-c c = search needs
 
 same-length : tie.Need-same-length
 same-length c = search needs
@@ -64,10 +64,10 @@ same-length-6 c = search needs
 
 returns-3 : tie.Need-returns-3
 returns-3 c =
-    let i = c .before .before .before .before .before .before .before .before .before .before .before .before .before .before in
-    let k = c .before .before .before .before .before .before .track-rule in
+    let i = c .before .before .before .before .before .before .before .before .before .before .before .before .before .before .before in
+    let k = c .before .before .before .before .before .before .before .track-rule in
     let s : ParserState = fields (i .args .s .now) in
-    λ g tokens. after-err g (not (c .before .before .before .before .before .before .before .before .before .is-negative .result)) (i .args .line) (i .args .rule) (i .args .position .0) (i .args .n) (view tokens (i .args .scratch .now) s) tokens (k .last .0) (fields (k .last .1 .0)) (k .result) _ (c .enum-told3 .given .1) (k .ensures .0 g tokens) (i .args .index .0) _ (ap not (c .before .before .before .before .before .before .before .before .before .is-negative .ensures ∙ ap is-negative (c .before .before .before .before .before .before .before .before .before .before .lookahead .ensures))) refl
+    λ g tokens. after-err g (not (c .before .before .before .before .before .before .before .before .before .before .is-negative .result)) (i .args .line) (i .args .rule) (i .args .position .0) (i .args .n) (view tokens (i .args .scratch .now) s) tokens (k .last .0) (fields (k .last .1 .0)) (k .result) _ (c .before .c .given .1) (k .ensures .0 g tokens) (i .args .index .0) _ (ap not (c .before .before .before .before .before .before .before .before .before .before .is-negative .ensures ∙ ap is-negative (c .before .before .before .before .before .before .before .before .before .before .before .lookahead .ensures))) refl
 
 pub rule-err-spec : {M : Type 1} → statement M
 rule-err-spec =
@@ -79,7 +79,7 @@ rule-err-spec =
     enum-told
     drop-rule-requires
     enum-told-2
-    enum-told-3
+    enum-known-c
     same-length
     same-length-2
     returns

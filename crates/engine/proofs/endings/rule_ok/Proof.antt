@@ -29,8 +29,8 @@ close-rule-requires c κs =
 enum-told-2 : tie.Need-enum-told-2
 enum-told-2 c = search needs
 
-enum-told-3 : tie.Need-enum-told-3
-enum-told-3 c = search needs
+enum-known-c : tie.Need-enum-known-c
+enum-known-c c = search needs
 
 same-length : tie.Need-same-length
 same-length c = search needs
@@ -69,10 +69,10 @@ same-length-7 c = search needs
 
 returns-3 : tie.Need-returns-3
 returns-3 c =
-    let i = c .before .before .before .before .before .before .before .before .before .before .before .before .before .before .before in
-    let k = c .before .before .before .before .before .before .track-rule in
+    let i = c .before .before .before .before .before .before .before .before .before .before .before .before .before .before .before .before in
+    let k = c .before .before .before .before .before .before .before .track-rule in
     let s : ParserState = fields (i .args .s .now) in
-    λ g h. after-ok g (c .before .before .before .before .before .before .before .before .before .is-negative .result) (i .args .line) (i .args .rule) (i .args .position .0) (i .args .n) (view (i .args .tokens .now) (i .args .scratch .now) s) (i .args .tokens .now) (k .last .0) (fields (k .last .1 .0)) (k .result) _ (c .enum-told3 .given .1) (k .ensures .0 g (i .args .tokens .now)) (i .args .index .0) _ (c .before .before .before .before .before .before .before .before .before .is-negative .ensures ∙ ap is-negative (c .before .before .before .before .before .before .before .before .before .before .lookahead .ensures)) refl
+    λ g h. after-ok g (c .before .before .before .before .before .before .before .before .before .before .is-negative .result) (i .args .line) (i .args .rule) (i .args .position .0) (i .args .n) (view (i .args .tokens .now) (i .args .scratch .now) s) (i .args .tokens .now) (k .last .0) (fields (k .last .1 .0)) (k .result) _ (c .before .c .given .1) (k .ensures .0 g (i .args .tokens .now)) (i .args .index .0) _ (c .before .before .before .before .before .before .before .before .before .before .is-negative .ensures ∙ ap is-negative (c .before .before .before .before .before .before .before .before .before .before .before .lookahead .ensures)) refl
 
 pub rule-ok-spec : {M : Type 1} → statement M
 rule-ok-spec =
@@ -84,7 +84,7 @@ rule-ok-spec =
     enum-told
     close-rule-requires
     enum-told-2
-    enum-told-3
+    enum-known-c
     same-length
     same-length-2
     same-length-3

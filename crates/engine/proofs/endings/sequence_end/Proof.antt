@@ -30,8 +30,8 @@ restored-requires c κs =
     let s : ParserState = fields (i .args .s .now) in
     (search needs, back-ready (i .args .scratch .now) s _ (i .args .position) (i .args .queue) (s .lookahead) (c .before .before .before .before .set-queue .ensures ∙ ap (set-queue (i .args .queue)) (c .before .before .before .before .before .before .before .before .set-position .ensures)) (subst (EndReady (i .args .scratch .now) (i .args .queue .0) s) (c .before .before .before .before .before .before .before .before .before .before .enum-told2 .given .1) (i .pre .1) .0))
 
-enum-told-3 : tie.Need-enum-told-3
-enum-told-3 c = search needs
+enum-known-r : tie.Need-enum-known-r
+enum-known-r c = search needs
 
 same-length : tie.Need-same-length
 same-length c = search needs
@@ -55,7 +55,7 @@ returns-2 c =
     λ tokens. rw (c .before .before .before .before .before .before .before .before .before .before .before .before .before .before .before .enum-told2 .given .1) (ap Err (c .before .before .before .before .restored .ensures .0 tokens ∙ ap restored (cut-view (i .args .scratch .now) s _ (i .args .position) (i .args .queue) (s .lookahead) (c .before .before .before .before .before .before .before .before .before .set-queue .ensures ∙ ap (set-queue (i .args .queue)) (c .before .before .before .before .before .before .before .before .before .before .before .before .before .set-position .ensures)) tokens (subst (EndReady (i .args .scratch .now) (i .args .queue .0) s) (c .before .before .before .before .before .before .before .before .before .before .before .before .before .before .before .enum-told2 .given .1) (i .pre .1) .1))))
 
 returns-3 : tie.Need-returns-3
-returns-3 c = λ tokens. rw (c .enum-told3 .given .1)
+returns-3 c = λ tokens. rw (c .before .r .given .1)
 
 pub sequence-end-spec : {M : Type 1} → statement M
 sequence-end-spec =
@@ -67,7 +67,7 @@ sequence-end-spec =
     set-position-requires
     set-queue-requires
     restored-requires
-    enum-told-3
+    enum-known-r
     same-length
     same-length-2
     returns

@@ -39,9 +39,6 @@ push-end-requires c κs =
 set-queue-requires : tie.Need-set-queue-requires
 set-queue-requires c κs = search needs
 
-stop-requires : tie.Need-stop-requires
-stop-requires c κs = search needs
-
 same-length : tie.Need-same-length
 same-length c = search needs
 
@@ -68,10 +65,10 @@ same-length-3 c = search needs
 
 returns-2 : tie.Need-returns-2
 returns-2 c =
-    let a : List ℕ = c .before .before .before .before .before .before .before .before .before .before .before .before .before .before .before .args .tokens .now in
-    let s : ParserState = fields (c .before .before .before .before .before .before .before .before .before .before .before .before .before .before .before .args .s .now) in
-    let on : ((scratch : List ℕ) → produces (view a scratch s) ≡ true) = λ scratch. sym (c .before .before .before .before .before .before .before .produces .ensures a scratch) ∙ c .before .before .before .before .before .before .if1 .taken in (
-      λ g scratch e. c .before .before .stop .ensures a scratch ∙ close-full g (c .before .before .before .before .before .before .before .before .before .before .before .before .before .before .before .args .line) (c .before .before .before .before .before .before .before .before .before .before .before .before .before .before .before .args .rule) (c .before .before .before .before .before .before .before .before .before .before .before .before .before .before .before .args .index .0) (view a scratch s) (on scratch) (room-no a _ _ (c .before .before .before .before .before .before .before .before .before .before .before .queue .ensures) (c .before .before .before .before .before .before .before .before .before .before .before .before .before .before .before .args .room) (g .capacity) e (c .before .before .before .before .if2 .left)),
+    let a : List ℕ = c .before .before .before .before .before .before .before .before .before .before .before .args .tokens .now in
+    let s : ParserState = fields (c .before .before .before .before .before .before .before .before .before .before .before .args .s .now) in
+    let on : ((scratch : List ℕ) → produces (view a scratch s) ≡ true) = λ scratch. sym (c .before .before .before .produces .ensures a scratch) ∙ c .before .before .if1 .taken in (
+      λ g scratch e. close-full g (c .before .before .before .before .before .before .before .before .before .before .before .args .line) (c .before .before .before .before .before .before .before .before .before .before .before .args .rule) (c .before .before .before .before .before .before .before .before .before .before .before .args .index .0) (view a scratch s) (on scratch) (room-no a _ _ (c .before .before .before .before .before .before .before .queue .ensures) (c .before .before .before .before .before .before .before .before .before .before .before .args .room) (g .capacity) e (c .if2 .left)),
       outside-refl a,
     )
 
@@ -98,7 +95,6 @@ close-rule-spec =
     pair-up-requires
     push-end-requires
     set-queue-requires
-    stop-requires
     same-length
     same-length-2
     returns

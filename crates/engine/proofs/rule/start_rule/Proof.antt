@@ -35,9 +35,6 @@ push-start-requires c κs =
 set-queue-requires : tie.Need-set-queue-requires
 set-queue-requires c κs = search needs
 
-stop-requires : tie.Need-stop-requires
-stop-requires c κs = search needs
-
 same-length : tie.Need-same-length
 same-length c = search needs
 
@@ -61,10 +58,10 @@ same-length-3 c = search needs
 
 returns-2 : tie.Need-returns-2
 returns-2 c =
-    let a : List ℕ = c .before .before .before .before .before .before .before .before .before .before .before .before .before .before .before .args .tokens .now in
-    let s : ParserState = fields (c .before .before .before .before .before .before .before .before .before .before .before .before .before .before .before .args .s .now) in
-    let on : ((scratch : List ℕ) → produces (view a scratch s) ≡ true) = λ scratch. sym (c .before .before .before .before .before .before .before .produces .ensures a scratch) ∙ c .before .before .before .before .before .before .if1 .taken in (
-      λ g scratch e. c .before .before .stop .ensures a scratch ∙ start-full g (c .before .before .before .before .before .before .before .before .before .before .before .before .before .before .before .args .line) (view a scratch s) (on scratch) (room-no a _ _ (c .before .before .before .before .before .before .before .before .before .before .before .queue .ensures) (c .before .before .before .before .before .before .before .before .before .before .before .before .before .before .before .args .room) (g .capacity) e (c .before .before .before .before .if2 .left)),
+    let a : List ℕ = c .before .before .before .before .before .before .before .before .before .before .before .args .tokens .now in
+    let s : ParserState = fields (c .before .before .before .before .before .before .before .before .before .before .before .args .s .now) in
+    let on : ((scratch : List ℕ) → produces (view a scratch s) ≡ true) = λ scratch. sym (c .before .before .before .produces .ensures a scratch) ∙ c .before .before .if1 .taken in (
+      λ g scratch e. start-full g (c .before .before .before .before .before .before .before .before .before .before .before .args .line) (view a scratch s) (on scratch) (room-no a _ _ (c .before .before .before .before .before .before .before .queue .ensures) (c .before .before .before .before .before .before .before .before .before .before .before .args .room) (g .capacity) e (c .if2 .left)),
       outside-refl a,
     )
 
@@ -90,7 +87,6 @@ start-rule-spec =
     add-after
     push-start-requires
     set-queue-requires
-    stop-requires
     same-length
     same-length-2
     returns

@@ -41,9 +41,6 @@ set-attempts-requires c κs = search needs
 enum-told : tie.Need-enum-told
 enum-told c = search needs
 
-stop-requires : tie.Need-stop-requires
-stop-requires c κs = search needs
-
 same-length : tie.Need-same-length
 same-length c = search needs
 
@@ -79,12 +76,12 @@ same-length-5 c = search needs
 
 returns-3 : tie.Need-returns-3
 returns-3 c =
-    let a : List ℕ = c .before .before .before .before .before .before .before .before .before .before .before .before .before .before .before .before .before .before .before .before .before .before .args .scratch .now in
-    let b : List ℕ = c .before .before .before .before .before .before .before .before .track .last .0 in
-    let s : ParserState = fields (c .before .before .before .before .before .before .before .before .before .before .before .before .before .before .before .before .before .before .before .before .before .before .args .s .now) in
-    let off : is-atomic (s .atomicity) ≡ false = sym (c .before .before .before .before .before .before .before .before .before .before .before .is-atomic .ensures ∙ ap is-atomic (c .before .before .before .before .before .before .before .before .before .before .before .before .before .before .atomicity .ensures)) ∙ c .before .before .before .before .before .before .before .before .before .before .if2 .left in (
-      λ g tokens. c .before .before .stop .ensures tokens b ∙ track-told g (c .before .before .before .before .before .before .before .before .before .before .before .before .before .before .before .before .before .before .before .before .before .before .args .due) (c .before .before .before .before .before .before .before .before .before .before .before .before .before .before .before .before .before .before .before .before .before .before .args .line) (c .before .before .before .before .before .before .before .before .before .before .before .before .before .before .before .before .before .before .before .before .before .before .args .rule) (c .before .before .before .before .before .before .before .before .before .before .before .before .before .before .before .before .before .before .before .before .before .before .args .p .0) (c .before .before .before .before .before .before .before .before .before .before .before .before .before .before .before .before .before .before .before .before .before .before .args .n) (view tokens a s) _ _ _ (ap (view-tracked b) (sym (c .before .before .before .before .enum-told .given .1))) (track-read a _ _ (c .before .before .before .before .before .before .before .before .before .before .before .before .before .before .before .before .before .before .attempts .ensures) (c .before .before .before .before .before .before .before .before .before .before .before .before .before .before .before .before .before .before .before .before .before .before .args .rule) (c .before .before .before .before .before .before .before .before .before .before .before .before .before .before .before .before .before .before .before .before .before .before .args .p .0) (c .before .before .before .before .before .before .before .before .before .before .before .before .before .before .before .before .before .before .before .before .before .before .args .n) (c .before .before .before .before .before .before .before .before .before .before .before .before .before .is-negative .result) _ (c .before .before .before .before .before .before .before .before .track .ensures .0)) (c .before .before .before .before .before .before .before .before .before .before .before .before .before .is-negative .ensures ∙ ap is-negative (c .before .before .before .before .before .before .before .before .before .before .before .before .before .before .before .before .lookahead .ensures)) (c .before .before .before .before .before .before .before .before .before .before .before .before .if1 .taken) off,
-      c .before .before .before .before .before .before .before .before .track .ensures .1,
+    let a : List ℕ = c .before .before .before .before .before .before .before .before .before .before .before .before .before .before .before .before .before .before .args .scratch .now in
+    let b : List ℕ = c .before .before .before .before .track .last .0 in
+    let s : ParserState = fields (c .before .before .before .before .before .before .before .before .before .before .before .before .before .before .before .before .before .before .args .s .now) in
+    let off : is-atomic (s .atomicity) ≡ false = sym (c .before .before .before .before .before .before .before .is-atomic .ensures ∙ ap is-atomic (c .before .before .before .before .before .before .before .before .before .before .atomicity .ensures)) ∙ c .before .before .before .before .before .before .if2 .left in (
+      λ g tokens. track-told g (c .before .before .before .before .before .before .before .before .before .before .before .before .before .before .before .before .before .before .args .due) (c .before .before .before .before .before .before .before .before .before .before .before .before .before .before .before .before .before .before .args .line) (c .before .before .before .before .before .before .before .before .before .before .before .before .before .before .before .before .before .before .args .rule) (c .before .before .before .before .before .before .before .before .before .before .before .before .before .before .before .before .before .before .args .p .0) (c .before .before .before .before .before .before .before .before .before .before .before .before .before .before .before .before .before .before .args .n) (view tokens a s) _ _ _ (ap (view-tracked b) (sym (c .enum-told .given .1))) (track-read a _ _ (c .before .before .before .before .before .before .before .before .before .before .before .before .before .before .attempts .ensures) (c .before .before .before .before .before .before .before .before .before .before .before .before .before .before .before .before .before .before .args .rule) (c .before .before .before .before .before .before .before .before .before .before .before .before .before .before .before .before .before .before .args .p .0) (c .before .before .before .before .before .before .before .before .before .before .before .before .before .before .before .before .before .before .args .n) (c .before .before .before .before .before .before .before .before .before .is-negative .result) _ (c .before .before .before .before .track .ensures .0)) (c .before .before .before .before .before .before .before .before .before .is-negative .ensures ∙ ap is-negative (c .before .before .before .before .before .before .before .before .before .before .before .before .lookahead .ensures)) (c .before .before .before .before .before .before .before .before .if1 .taken) off,
+      c .before .before .before .before .track .ensures .1,
     )
 
 same-length-6 : tie.Need-same-length-6
@@ -108,7 +105,6 @@ track-rule-spec =
     enum-known-u
     set-attempts-requires
     enum-told
-    stop-requires
     same-length
     returns
     same-length-2

@@ -20,7 +20,7 @@ returns-2 : tie.Need-returns-2
 returns-2 c = goes-err _ _ (c .enum-told2 .given .1)
 
 returns-3 : tie.Need-returns-3
-returns-3 c = goes-stop _ _ (c .enum-told3 .given .1)
+returns-3 c = goes-stop _ _ _ (c .enum-told3 .given .1)
 
 pub goes-right-spec : {M : Type 1} → statement M
 goes-right-spec = tie.close (tie.spec enum-told enum-told-2 enum-told-3 returns returns-2 returns-3)

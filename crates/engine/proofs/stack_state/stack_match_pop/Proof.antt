@@ -1,5 +1,5 @@
 -- One law of StateSteps for each answer of `match_pop`.
-use Rattle.engine.proofs.StateSteps.{stack-read, popped-all, popped-some, popped-indebted, stopping}
+use Rattle.engine.proofs.StateSteps.{stack-read, popped-all, popped-some, popped-indebted}
 use borrow.Author.Needs.{needs}
 use Rattle.engine.proofs.stack_state.stack_match_pop.Statement.{statement}
 use Rattle.engine.proofs.stack_state.stack_match_pop.Tie as tie
@@ -31,9 +31,6 @@ set-stack-requires-2 c κs = search needs
 enum-told : tie.Need-enum-told
 enum-told c = search needs
 
-stop-requires : tie.Need-stop-requires
-stop-requires c κs = search needs
-
 same-length : tie.Need-same-length
 same-length c = search needs
 
@@ -59,7 +56,7 @@ same-length-6 : tie.Need-same-length-6
 same-length-6 c = search needs
 
 returns-3 : tie.Need-returns-3
-returns-3 c = stopping _ _ (c .before .before .stop .result) (c .before .before .stop .ensures) (popped-indebted (c .before .before .before .before .before .before .before .before .before .before .before .before .before .before .before .before .before .args .text .now) (c .before .before .before .before .before .before .before .before .before .before .before .before .before .before .before .before .before .args .line) (c .before .before .before .before .before .before .before .before .before .before .before .before .before .before .before .before .before .pre .1) (c .before .before .before .before .before .before .before .before .before .before .before .before .stack .ensures) (c .before .before .before .before .before .before .before .before .before .before .position .ensures) (c .before .before .before .before .before .before .before .before .match-pop .result) (c .before .before .before .before .before .before .before .before .match-pop .ensures) (c .before .before .before .before .enum-told .given .1))
+returns-3 c = popped-indebted (c .before .before .before .before .before .before .before .before .before .before .before .before .before .args .text .now) (c .before .before .before .before .before .before .before .before .before .before .before .before .before .args .line) (c .before .before .before .before .before .before .before .before .before .before .before .before .before .pre .1) (c .before .before .before .before .before .before .before .before .stack .ensures) (c .before .before .before .before .before .before .position .ensures) (c .before .before .before .before .match-pop .result) (c .before .before .before .before .match-pop .ensures) (c .enum-told .given .1)
 
 pub stack-match-pop-spec : {M : Type 1} → statement M
 stack-match-pop-spec =
@@ -74,7 +71,6 @@ stack-match-pop-spec =
     enum-known-w-2
     set-stack-requires-2
     enum-told
-    stop-requires
     same-length
     same-length-2
     returns

@@ -1,6 +1,6 @@
 -- One law of StateSteps for each answer of `pop`.
 use native.Mathlib.Omega.{arith}
-use Rattle.engine.proofs.StateSteps.{stack-read, pop-moved, pop-stopped, pop-indebted, stopping}
+use Rattle.engine.proofs.StateSteps.{stack-read, pop-moved, pop-stopped, pop-indebted}
 use borrow.Author.Needs.{needs}
 use Rattle.engine.proofs.stack_state.stack_pop.Statement.{statement}
 use Rattle.engine.proofs.stack_state.stack_pop.Tie as tie
@@ -32,14 +32,8 @@ moved-requires c κs = omega (arith, c .before .before .before .before .before .
 enum-told : tie.Need-enum-told
 enum-told c = search needs
 
-stop-requires : tie.Need-stop-requires
-stop-requires c κs = search needs
-
 enum-told-2 : tie.Need-enum-told-2
 enum-told-2 c = search needs
-
-stop-requires-2 : tie.Need-stop-requires-2
-stop-requires-2 c κs = search needs
 
 same-length : tie.Need-same-length
 same-length c = search needs
@@ -57,7 +51,7 @@ same-length-4 : tie.Need-same-length-4
 same-length-4 c = search needs
 
 returns-2 : tie.Need-returns-2
-returns-2 c = stopping _ _ (c .before .before .stop .result) (c .before .before .stop .ensures) (pop-stopped (c .before .before .before .before .before .before .before .before .before .before .before .before .before .before .before .before .before .args .text .now) (c .before .before .before .before .before .before .before .before .before .before .before .before .before .before .before .before .before .args .line) (c .before .before .before .before .before .before .before .before .before .before .before .before .before .before .before .before .before .pre .1) (c .before .before .before .before .before .before .before .before .before .before .before .before .stack .ensures) (c .before .before .before .before .before .before .before .before .pop .result) (c .before .before .before .before .before .before .before .before .pop .ensures) (c .before .before .before .before .enum-told .given .1))
+returns-2 c = pop-stopped (c .before .before .before .before .before .before .before .before .before .before .before .before .before .args .text .now) (c .before .before .before .before .before .before .before .before .before .before .before .before .before .args .line) (c .before .before .before .before .before .before .before .before .before .before .before .before .before .pre .1) (c .before .before .before .before .before .before .before .before .stack .ensures) (c .before .before .before .before .pop .result) (c .before .before .before .before .pop .ensures) (c .enum-told .given .1)
 
 same-length-5 : tie.Need-same-length-5
 same-length-5 c = search needs
@@ -66,7 +60,7 @@ same-length-6 : tie.Need-same-length-6
 same-length-6 c = search needs
 
 returns-3 : tie.Need-returns-3
-returns-3 c = stopping _ _ (c .before .before .stop2 .result) (c .before .before .stop2 .ensures) (pop-indebted (c .before .before .before .before .before .before .before .before .before .before .before .before .before .before .before .before .before .args .text .now) (c .before .before .before .before .before .before .before .before .before .before .before .before .before .before .before .before .before .args .line) (c .before .before .before .before .before .before .before .before .before .before .before .before .before .before .before .before .before .pre .1) (c .before .before .before .before .before .before .before .before .before .before .before .before .stack .ensures) (c .before .before .before .before .before .before .before .before .pop .result) (c .before .before .before .before .before .before .before .before .pop .ensures) (c .before .before .before .before .enum-told2 .given .1))
+returns-3 c = pop-indebted (c .before .before .before .before .before .before .before .before .before .before .before .before .before .args .text .now) (c .before .before .before .before .before .before .before .before .before .before .before .before .before .args .line) (c .before .before .before .before .before .before .before .before .before .before .before .before .before .pre .1) (c .before .before .before .before .before .before .before .before .stack .ensures) (c .before .before .before .before .pop .result) (c .before .before .before .before .pop .ensures) (c .enum-told2 .given .1)
 
 pub stack-pop-spec : {M : Type 1} → statement M
 stack-pop-spec =
@@ -81,9 +75,7 @@ stack-pop-spec =
     match-string-requires
     moved-requires
     enum-told
-    stop-requires
     enum-told-2
-    stop-requires-2
     same-length
     same-length-2
     returns

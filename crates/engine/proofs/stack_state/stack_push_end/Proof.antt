@@ -1,5 +1,5 @@
 -- One law of StateSteps for each answer of `push`.
-use Rattle.engine.proofs.StateSteps.{stack-read, position-read, push-kept, push-stopped, stopping}
+use Rattle.engine.proofs.StateSteps.{stack-read, position-read, push-kept, push-stopped}
 use borrow.Author.Needs.{needs}
 use Rattle.engine.proofs.stack_state.stack_push_end.Statement.{statement}
 use Rattle.engine.proofs.stack_state.stack_push_end.Tie as tie
@@ -28,9 +28,6 @@ set-stack-requires c κs = search needs
 enum-told : tie.Need-enum-told
 enum-told c = search needs
 
-stop-requires : tie.Need-stop-requires
-stop-requires c κs = search needs
-
 same-length : tie.Need-same-length
 same-length c = search needs
 
@@ -47,7 +44,7 @@ same-length-4 : tie.Need-same-length-4
 same-length-4 c = search needs
 
 returns-2 : tie.Need-returns-2
-returns-2 c = let e = stopping _ _ (c .before .before .stop .result) (c .before .before .stop .ensures) (push-stopped (c .before .before .before .before .before .before .before .before .before .before .before .before .before .before .before .before .before .before .pre .1 .state) (c .before .before .before .before .before .before .before .before .before .before .before .before .before .before .stack .ensures) (c .before .before .before .before .before .before .before .before .before .before .before .before .position .ensures) _ (c .before .before .before .before .before .before .before .before .push .result) (c .before .before .before .before .before .before .before .before .push .ensures) (c .before .before .before .before .before .before .before .before .before .before .before .before .before .before .before .before .before .before .args .line) (c .before .before .before .before .enum-told .given .1)) in (λ text. e .0, e .1)
+returns-2 c = let e = push-stopped (c .before .before .before .before .before .before .before .before .before .before .before .before .before .before .pre .1 .state) (c .before .before .before .before .before .before .before .before .before .before .stack .ensures) (c .before .before .before .before .before .before .before .before .position .ensures) _ (c .before .before .before .before .push .result) (c .before .before .before .before .push .ensures) (c .before .before .before .before .before .before .before .before .before .before .before .before .before .before .args .line) (c .enum-told .given .1) in (λ text. e .0, e .1)
 
 pub stack-push-end-spec : {M : Type 1} → statement M
 stack-push-end-spec =
@@ -61,7 +58,6 @@ stack-push-end-spec =
     enum-known-w
     set-stack-requires
     enum-told
-    stop-requires
     same-length
     same-length-2
     returns

@@ -2,8 +2,8 @@
 use borrow.Author.Needs.{needs}
 use Prim.Native.Nat.{ℕ}
 use Rattle.engine.proofs.parser_state.left_side.Reads as left-side
-use Rattle.engine.proofs.parser_state.+atomic+left_side+lookahead+node+optional+repeat+restore_on_err+rule+sequence+simple+stack_push.Lts-left_side as left-side-lts
-use Rattle.engine.proofs.parser_state.+atomic+left_side+lookahead+node+optional+repeat+restore_on_err+rule+sequence+simple+stack_push.Proof.Measures.{left-side-at, left-side-calls}
+use Rattle.engine.proofs.parser_state.+atomic+left_side+lookahead+node+optional+packed_node+repeat+restore_on_err+rule+sequence+simple+stack_push.Lts-left_side as left-side-lts
+use Rattle.engine.proofs.parser_state.+atomic+left_side+lookahead+node+optional+packed_node+repeat+restore_on_err+rule+sequence+simple+stack_push.Proof.Measures.{left-side-at, left-side-calls}
 use mathlib.Core.Path.{_≡_, refl, sym, _∙_}
 use native.Mathlib.Omega.{arith}
 use lib.ListN.{length}

@@ -2,8 +2,8 @@
 use borrow.Author.Needs.{needs}
 use Prim.Native.Nat.{ℕ}
 use Rattle.engine.proofs.parser_state.rule.Reads as rule
-use Rattle.engine.proofs.parser_state.+atomic+left_side+lookahead+node+optional+repeat+restore_on_err+rule+sequence+simple+stack_push.Lts-rule as rule-lts
-use Rattle.engine.proofs.parser_state.+atomic+left_side+lookahead+node+optional+repeat+restore_on_err+rule+sequence+simple+stack_push.Proof.Measures.{rule-at, rule-calls}
+use Rattle.engine.proofs.parser_state.+atomic+left_side+lookahead+node+optional+packed_node+repeat+restore_on_err+rule+sequence+simple+stack_push.Lts-rule as rule-lts
+use Rattle.engine.proofs.parser_state.+atomic+left_side+lookahead+node+optional+packed_node+repeat+restore_on_err+rule+sequence+simple+stack_push.Proof.Measures.{rule-at, rule-calls}
 use mathlib.Core.Path.{_≡_, refl, ap, sym, _∙_}
 use mathlib.Core.Bool.{true}
 use Prim.Native.Nat.{_-_, _≤_}
@@ -54,7 +54,7 @@ module _ (t : ℕ) where
 
   wide : (c : rule-lts.Else1 (rule-calls t) (rule-at t) rule.Post) →
       let at-enter = c .before .before .before in
-      15 ≤ length (at-enter .enter .last .0)
+      13 ≤ length (at-enter .enter .last .0)
   wide c =
       let at-enter = c .before .before .before in
       let S = c .before .before .before .before .before .before .before .before .before .before .before in
@@ -175,8 +175,8 @@ module _ (t : ℕ) where
   enum-told-2 : rule-lts.Need-enum-told-2 (rule-calls t) (rule-at t) rule.Post
   enum-told-2 c = search needs
 
-  enum-told-3 : rule-lts.Need-enum-told-3 (rule-calls t) (rule-at t) rule.Post
-  enum-told-3 c = search needs
+  enum-known-c : rule-lts.Need-enum-known-c (rule-calls t) (rule-at t) rule.Post
+  enum-known-c c = search needs
 
   same-length-2 : rule-lts.Need-same-length-2 (rule-calls t) (rule-at t) rule.Post
   same-length-2 c =
@@ -234,22 +234,22 @@ module _ (t : ℕ) where
 
   same-length-7 : rule-lts.Need-same-length-7 (rule-calls t) (rule-at t) rule.Post
   same-length-7 c =
-      let at-start-rule = c .before .before .before .before .before .before in
+      let at-start-rule = c .before .before .before .before .before .before .before in
       at-start-rule .start-rule .kept .0
 
   same-length-8 : rule-lts.Need-same-length-8 (rule-calls t) (rule-at t) rule.Post
   same-length-8 c =
-      let at-start-rule = c .before .before .before .before .before .before in
-      let at-enter = c .before .before .before .before .before .before .before .before .before .before .before .before .before .before .before .before .before .before .before in
+      let at-start-rule = c .before .before .before .before .before .before .before in
+      let at-enter = c .before .before .before .before .before .before .before .before .before .before .before .before .before .before .before .before .before .before .before .before in
       at-start-rule .start-rule .kept .1 .0 ∙ at-enter .enter .kept .0
 
   returns-4 : rule-lts.Need-returns-4 (rule-calls t) (rule-at t) rule.Post
   returns-4 c =
-      let at-start-rule = c .before .before .before .before .before .before in
-      let at-if1 = c .before .before .before .before .before .before .before .before .before .before .before .before .before .before .before .before in
-      let at-line-at = c .before .before .before .before .before .before .before .before .before .before .before .before .before .before .before .before .before .before .before .before .before in
-      let S = c .before .before .before .before .before .before .before .before .before .before .before .before .before .before .before .before .before .before .before .before .before .before .before .before .before .before .before in
-      by-tree _ _ _ _ _ _ _ _ _ ((at-8 _ _ (tests _ _ _ _ (S .pre .1 .0 .0)) _ (S .pre .1 .1 .0) _ (at-line-at .line-at .ensures) (S .pre .1 .1 .1)) .2) (rule-stop _ _ _ _ _ (at-line-at .line-at .result .b) _ _ _ _ (entered at-if1) _ (told _ _ _ _ _ _ (at-start-rule .start-rule .ensures .0 (setting-of (S .args .nodes .now) (S .args .literals .now) (S .args .text .now) (S .args .room)) (S .args .scratch .now) refl) (c .enum-told3 .given .1)))
+      let at-start-rule = c .before .before .before .before .before .before .before in
+      let at-if1 = c .before .before .before .before .before .before .before .before .before .before .before .before .before .before .before .before .before in
+      let at-line-at = c .before .before .before .before .before .before .before .before .before .before .before .before .before .before .before .before .before .before .before .before .before .before in
+      let S = c .before .before .before .before .before .before .before .before .before .before .before .before .before .before .before .before .before .before .before .before .before .before .before .before .before .before .before .before in
+      by-tree _ _ _ _ _ _ _ _ _ ((at-8 _ _ (tests _ _ _ _ (S .pre .1 .0 .0)) _ (S .pre .1 .1 .0) _ (at-line-at .line-at .ensures) (S .pre .1 .1 .1)) .2) (rule-stop _ _ _ _ _ (at-line-at .line-at .result .b) _ _ _ _ (entered at-if1) _ (told _ _ _ _ _ _ (at-start-rule .start-rule .ensures .0 (setting-of (S .args .nodes .now) (S .args .literals .now) (S .args .text .now) (S .args .room)) (S .args .scratch .now) refl) (c .before .c .given .1)))
 
 pub rule-closed : {M : Type 1} → (t : ℕ) → rule-lts.Closed (rule-calls t) (rule-at t) rule.Post M
 rule-closed t =
@@ -271,7 +271,7 @@ rule-closed t =
     (cast-at t)
     (rule-end-requires t)
     (enum-told-2 t)
-    (enum-told-3 t)
+    (enum-known-c t)
     (same-length-2 t)
     (same-length-3 t)
     (same-length-4 t)

@@ -2,8 +2,8 @@
 use borrow.Author.Needs.{needs}
 use Prim.Native.Nat.{ℕ}
 use Rattle.engine.proofs.parser_state.repeat.Reads as repeat
-use Rattle.engine.proofs.parser_state.+atomic+left_side+lookahead+node+optional+repeat+restore_on_err+rule+sequence+simple+stack_push.Lts-repeat as repeat-lts
-use Rattle.engine.proofs.parser_state.+atomic+left_side+lookahead+node+optional+repeat+restore_on_err+rule+sequence+simple+stack_push.Proof.Measures.{repeat-at, repeat-calls}
+use Rattle.engine.proofs.parser_state.+atomic+left_side+lookahead+node+optional+packed_node+repeat+restore_on_err+rule+sequence+simple+stack_push.Lts-repeat as repeat-lts
+use Rattle.engine.proofs.parser_state.+atomic+left_side+lookahead+node+optional+packed_node+repeat+restore_on_err+rule+sequence+simple+stack_push.Proof.Measures.{repeat-at, repeat-calls}
 use mathlib.Core.Path.{_≡_, refl, _∙_}
 use mathlib.Core.Bool.{true}
 use Prim.Native.Nat.{_-_, _≤_}
@@ -55,7 +55,7 @@ module _ (t : ℕ) where
 
   wide : (c : repeat-lts.Else1 (repeat-calls t) (repeat-at t) repeat.Post Inv-loop μ-loop) →
       let at-enter = c .before .before .before in
-      15 ≤ length (at-enter .enter .last .0)
+      13 ≤ length (at-enter .enter .last .0)
   wide c =
       let at-enter = c .before .before .before in
       let S = c .before .before .before .before .before .before .before .before .before .before .before in
@@ -156,36 +156,36 @@ module _ (t : ℕ) where
       let S = c .before .before .before .before .before .before .before .before .before .before .before .before .before .before .before .before .before .before .before .before .before .before .before .before .before .before in
       by-tree _ _ _ _ _ _ _ _ _ ((at-10 _ _ (tests _ _ _ _ (S .pre .1 .0 .0)) _ (S .pre .1 .1 .0) _ (at-line-at .line-at .ensures) (S .pre .1 .1 .1)) .1) (repeat-err (S .args .nodes .now) (S .args .literals .now) (S .args .text .now) (S .args .room) (S .args .depth) (at-line-at .line-at .result .a) _ _ _ _ _ _ _ (entered at-if1) (at-loop .loop .inv .0) _ (told _ _ _ _ _ _ (at-node .node .ensures) (c .before .before .enum-told2 .given .1)) _ (c .forgiven .ensures (at-node .node .last .1 .1 .1 .0) (at-node .node .last .1 .1 .1 .1 .0)))
 
-  enum-told-3 : repeat-lts.Need-enum-told-3 (repeat-calls t) (repeat-at t) repeat.Post Inv-loop μ-loop
-  enum-told-3 c = search needs
+  enum-known-c : repeat-lts.Need-enum-known-c (repeat-calls t) (repeat-at t) repeat.Post Inv-loop μ-loop
+  enum-known-c c = search needs
 
   same-length-5 : repeat-lts.Need-same-length-5 (repeat-calls t) (repeat-at t) repeat.Post Inv-loop μ-loop
   same-length-5 c =
-      let at-node = c .before .before .before .before .before .before .before .before in
-      let at-loop = c .before .before .before .before .before .before .before .before .before .before .before .before in
+      let at-node = c .before .before .before .before .before .before .before .before .before in
+      let at-loop = c .before .before .before .before .before .before .before .before .before .before .before .before .before in
       at-node .node .kept .1 .1 .1 .0 ∙ at-loop .loop .inv .0 .tokens-same
 
   same-length-6 : repeat-lts.Need-same-length-6 (repeat-calls t) (repeat-at t) repeat.Post Inv-loop μ-loop
   same-length-6 c =
-      let at-node = c .before .before .before .before .before .before .before .before in
-      let at-loop = c .before .before .before .before .before .before .before .before .before .before .before .before in
+      let at-node = c .before .before .before .before .before .before .before .before .before in
+      let at-loop = c .before .before .before .before .before .before .before .before .before .before .before .before .before in
       at-node .node .kept .1 .1 .1 .1 .0 ∙ at-loop .loop .inv .0 .scratch-same
 
   same-length-7 : repeat-lts.Need-same-length-7 (repeat-calls t) (repeat-at t) repeat.Post Inv-loop μ-loop
   same-length-7 c =
-      let at-node = c .before .before .before .before .before .before .before .before in
-      let at-loop = c .before .before .before .before .before .before .before .before .before .before .before .before in
-      let at-enter = c .before .before .before .before .before .before .before .before .before .before .before .before .before .before .before .before in
+      let at-node = c .before .before .before .before .before .before .before .before .before in
+      let at-loop = c .before .before .before .before .before .before .before .before .before .before .before .before .before in
+      let at-enter = c .before .before .before .before .before .before .before .before .before .before .before .before .before .before .before .before .before in
       at-node .node .kept .1 .1 .1 .1 .1 .0 ∙ at-loop .loop .inv .1 ∙ at-enter .enter .kept .0
 
   returns-3 : repeat-lts.Need-returns-3 (repeat-calls t) (repeat-at t) repeat.Post Inv-loop μ-loop
   returns-3 c =
-      let at-node = c .before .before .before .before .before .before .before .before in
-      let at-loop = c .before .before .before .before .before .before .before .before .before .before .before .before in
-      let at-if1 = c .before .before .before .before .before .before .before .before .before .before .before .before .before in
-      let at-line-at = c .before .before .before .before .before .before .before .before .before .before .before .before .before .before .before .before .before .before in
-      let S = c .before .before .before .before .before .before .before .before .before .before .before .before .before .before .before .before .before .before .before .before .before .before .before .before in
-      by-tree _ _ _ _ _ _ _ _ _ ((at-10 _ _ (tests _ _ _ _ (S .pre .1 .0 .0)) _ (S .pre .1 .1 .0) _ (at-line-at .line-at .ensures) (S .pre .1 .1 .1)) .1) (repeat-stop (S .args .nodes .now) (S .args .literals .now) (S .args .text .now) (S .args .room) (S .args .depth) (at-line-at .line-at .result .a) _ _ _ _ _ _ _ (entered at-if1) (at-loop .loop .inv .0) _ (told _ _ _ _ _ _ (at-node .node .ensures) (c .enum-told3 .given .1)))
+      let at-node = c .before .before .before .before .before .before .before .before .before in
+      let at-loop = c .before .before .before .before .before .before .before .before .before .before .before .before .before in
+      let at-if1 = c .before .before .before .before .before .before .before .before .before .before .before .before .before .before in
+      let at-line-at = c .before .before .before .before .before .before .before .before .before .before .before .before .before .before .before .before .before .before .before in
+      let S = c .before .before .before .before .before .before .before .before .before .before .before .before .before .before .before .before .before .before .before .before .before .before .before .before .before in
+      by-tree _ _ _ _ _ _ _ _ _ ((at-10 _ _ (tests _ _ _ _ (S .pre .1 .0 .0)) _ (S .pre .1 .1 .0) _ (at-line-at .line-at .ensures) (S .pre .1 .1 .1)) .1) (repeat-stop (S .args .nodes .now) (S .args .literals .now) (S .args .text .now) (S .args .room) (S .args .depth) (at-line-at .line-at .result .a) _ _ _ _ _ _ _ (entered at-if1) (at-loop .loop .inv .0) _ (told _ _ _ _ _ _ (at-node .node .ensures) (c .before .c .given .1)))
 
 pub repeat-closed : {M : Type 1} → (t : ℕ) → repeat-lts.Closed (repeat-calls t) (repeat-at t) repeat.Post M
 repeat-closed t =
@@ -206,7 +206,7 @@ repeat-closed t =
     (same-length-3 t)
     (same-length-4 t)
     (returns-2 t)
-    (enum-told-3 t)
+    (enum-known-c t)
     (same-length-5 t)
     (same-length-6 t)
     (same-length-7 t)

@@ -1,8 +1,8 @@
 -- An open entry, a checkpoint, the body, `sequence_end`: each one's equation, put together by `sequence-step`.
 use Prim.Native.Nat.{ℕ}
 use Rattle.engine.proofs.parser_state.sequence.Reads as sequence
-use Rattle.engine.proofs.parser_state.+atomic+left_side+lookahead+node+optional+repeat+restore_on_err+rule+sequence+simple+stack_push.Lts-sequence as sequence-lts
-use Rattle.engine.proofs.parser_state.+atomic+left_side+lookahead+node+optional+repeat+restore_on_err+rule+sequence+simple+stack_push.Proof.Measures.{sequence-at, sequence-calls}
+use Rattle.engine.proofs.parser_state.+atomic+left_side+lookahead+node+optional+packed_node+repeat+restore_on_err+rule+sequence+simple+stack_push.Lts-sequence as sequence-lts
+use Rattle.engine.proofs.parser_state.+atomic+left_side+lookahead+node+optional+packed_node+repeat+restore_on_err+rule+sequence+simple+stack_push.Proof.Measures.{sequence-at, sequence-calls}
 use mathlib.Core.Path.{_≡_, _∙_}
 use mathlib.Core.Bool.{true}
 use Prim.Native.Nat.{_-_, _≤_}
@@ -45,7 +45,7 @@ module _ (t : ℕ) where
 
   wide : (c : sequence-lts.Else1 (sequence-calls t) (sequence-at t) sequence.Post) →
       let at-enter = c .before .before .before in
-      15 ≤ length (at-enter .enter .last .0)
+      13 ≤ length (at-enter .enter .last .0)
   wide c =
       let at-enter = c .before .before .before in
       let S = c .before .before .before .before .before .before .before .before .before .before .before in

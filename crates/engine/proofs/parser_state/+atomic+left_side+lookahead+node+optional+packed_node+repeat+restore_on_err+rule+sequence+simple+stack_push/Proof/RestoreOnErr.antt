@@ -1,8 +1,8 @@
 -- An open entry, which is not counted, a checkpoint, the body, `restore_on_err_end`: put together by `restore-step`.
 use Prim.Native.Nat.{ℕ}
 use Rattle.engine.proofs.parser_state.restore_on_err.Reads as restore-on-err
-use Rattle.engine.proofs.parser_state.+atomic+left_side+lookahead+node+optional+repeat+restore_on_err+rule+sequence+simple+stack_push.Lts-restore_on_err as restore-on-err-lts
-use Rattle.engine.proofs.parser_state.+atomic+left_side+lookahead+node+optional+repeat+restore_on_err+rule+sequence+simple+stack_push.Proof.Measures.{restore-on-err-at, restore-on-err-calls}
+use Rattle.engine.proofs.parser_state.+atomic+left_side+lookahead+node+optional+packed_node+repeat+restore_on_err+rule+sequence+simple+stack_push.Lts-restore_on_err as restore-on-err-lts
+use Rattle.engine.proofs.parser_state.+atomic+left_side+lookahead+node+optional+packed_node+repeat+restore_on_err+rule+sequence+simple+stack_push.Proof.Measures.{restore-on-err-at, restore-on-err-calls}
 use mathlib.Core.Path.{_≡_, _∙_}
 use mathlib.Core.Bool.{false}
 use Prim.Native.Nat.{_-_, _≤_}
@@ -46,7 +46,7 @@ module _ (t : ℕ) where
 
   wide : (c : restore-on-err-lts.Else1 (restore-on-err-calls t) (restore-on-err-at t) restore-on-err.Post) →
       let at-enter = c .before .before .before in
-      15 ≤ length (at-enter .enter .last .0)
+      13 ≤ length (at-enter .enter .last .0)
   wide c =
       let at-enter = c .before .before .before in
       let S = c .before .before .before .before .before .before .before .before .before .before .before in

@@ -2,8 +2,8 @@
 use borrow.Author.Needs.{needs}
 use Prim.Native.Nat.{ℕ}
 use Rattle.engine.proofs.parser_state.lookahead.Reads as lookahead
-use Rattle.engine.proofs.parser_state.+atomic+left_side+lookahead+node+optional+repeat+restore_on_err+rule+sequence+simple+stack_push.Lts-lookahead as lookahead-lts
-use Rattle.engine.proofs.parser_state.+atomic+left_side+lookahead+node+optional+repeat+restore_on_err+rule+sequence+simple+stack_push.Proof.Measures.{lookahead-at, lookahead-calls}
+use Rattle.engine.proofs.parser_state.+atomic+left_side+lookahead+node+optional+packed_node+repeat+restore_on_err+rule+sequence+simple+stack_push.Lts-lookahead as lookahead-lts
+use Rattle.engine.proofs.parser_state.+atomic+left_side+lookahead+node+optional+packed_node+repeat+restore_on_err+rule+sequence+simple+stack_push.Proof.Measures.{lookahead-at, lookahead-calls}
 use mathlib.Core.Path.{_≡_, ap, sym, _∙_}
 use mathlib.Core.Bool.{true}
 use Prim.Native.Nat.{_-_, _≤_}
@@ -51,7 +51,7 @@ module _ (t : ℕ) where
 
   wide : (c : lookahead-lts.Else1 (lookahead-calls t) (lookahead-at t) lookahead.Post) →
       let at-enter = c .before .before .before in
-      15 ≤ length (at-enter .enter .last .0)
+      13 ≤ length (at-enter .enter .last .0)
   wide c =
       let at-enter = c .before .before .before in
       let S = c .before .before .before .before .before .before .before .before .before .before .before in

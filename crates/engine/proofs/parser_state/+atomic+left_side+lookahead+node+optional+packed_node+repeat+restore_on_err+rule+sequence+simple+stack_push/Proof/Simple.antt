@@ -1,8 +1,8 @@
 -- Each kind's function answers for its line; a call is evaluated as the rule that it names.
 use Prim.Native.Nat.{ℕ}
 use Rattle.engine.proofs.parser_state.simple.Reads as simple
-use Rattle.engine.proofs.parser_state.+atomic+left_side+lookahead+node+optional+repeat+restore_on_err+rule+sequence+simple+stack_push.Lts-simple as simple-lts
-use Rattle.engine.proofs.parser_state.+atomic+left_side+lookahead+node+optional+repeat+restore_on_err+rule+sequence+simple+stack_push.Proof.Measures.{simple-at, simple-calls}
+use Rattle.engine.proofs.parser_state.+atomic+left_side+lookahead+node+optional+packed_node+repeat+restore_on_err+rule+sequence+simple+stack_push.Lts-simple as simple-lts
+use Rattle.engine.proofs.parser_state.+atomic+left_side+lookahead+node+optional+packed_node+repeat+restore_on_err+rule+sequence+simple+stack_push.Proof.Measures.{simple-at, simple-calls}
 use native.Mathlib.Omega.{arith}
 use borrow.Author.Needs.{needs}
 use Rattle.engine.proofs.Steps.{tests}

@@ -3,37 +3,40 @@ use borrow.Fn.Kinds.{In}
 use borrow.Fn.PlainCycle.{Measures, is, falls, and}
 use Rattle.engine.proofs.parser_state.atomic.Reads as atomic
 use Rattle.engine.proofs.parser_state.atomic.Kinds as atomic-kinds
-use Rattle.engine.proofs.parser_state.+atomic+left_side+lookahead+node+optional+repeat+restore_on_err+rule+sequence+simple+stack_push.Lts-atomic as atomic-lts
+use Rattle.engine.proofs.parser_state.+atomic+left_side+lookahead+node+optional+packed_node+repeat+restore_on_err+rule+sequence+simple+stack_push.Lts-atomic as atomic-lts
 use Rattle.engine.proofs.parser_state.left_side.Reads as left-side
 use Rattle.engine.proofs.parser_state.left_side.Kinds as left-side-kinds
-use Rattle.engine.proofs.parser_state.+atomic+left_side+lookahead+node+optional+repeat+restore_on_err+rule+sequence+simple+stack_push.Lts-left_side as left-side-lts
+use Rattle.engine.proofs.parser_state.+atomic+left_side+lookahead+node+optional+packed_node+repeat+restore_on_err+rule+sequence+simple+stack_push.Lts-left_side as left-side-lts
 use Rattle.engine.proofs.parser_state.lookahead.Reads as lookahead
 use Rattle.engine.proofs.parser_state.lookahead.Kinds as lookahead-kinds
-use Rattle.engine.proofs.parser_state.+atomic+left_side+lookahead+node+optional+repeat+restore_on_err+rule+sequence+simple+stack_push.Lts-lookahead as lookahead-lts
+use Rattle.engine.proofs.parser_state.+atomic+left_side+lookahead+node+optional+packed_node+repeat+restore_on_err+rule+sequence+simple+stack_push.Lts-lookahead as lookahead-lts
 use Rattle.engine.proofs.parser_state.node.Reads as node
 use Rattle.engine.proofs.parser_state.node.Kinds as node-kinds
-use Rattle.engine.proofs.parser_state.+atomic+left_side+lookahead+node+optional+repeat+restore_on_err+rule+sequence+simple+stack_push.Lts-node as node-lts
+use Rattle.engine.proofs.parser_state.+atomic+left_side+lookahead+node+optional+packed_node+repeat+restore_on_err+rule+sequence+simple+stack_push.Lts-node as node-lts
 use Rattle.engine.proofs.parser_state.optional.Reads as optional
 use Rattle.engine.proofs.parser_state.optional.Kinds as optional-kinds
-use Rattle.engine.proofs.parser_state.+atomic+left_side+lookahead+node+optional+repeat+restore_on_err+rule+sequence+simple+stack_push.Lts-optional as optional-lts
+use Rattle.engine.proofs.parser_state.+atomic+left_side+lookahead+node+optional+packed_node+repeat+restore_on_err+rule+sequence+simple+stack_push.Lts-optional as optional-lts
+use Rattle.engine.proofs.parser_state.packed_node.Reads as packed-node
+use Rattle.engine.proofs.parser_state.packed_node.Kinds as packed-node-kinds
+use Rattle.engine.proofs.parser_state.+atomic+left_side+lookahead+node+optional+packed_node+repeat+restore_on_err+rule+sequence+simple+stack_push.Lts-packed_node as packed-node-lts
 use Rattle.engine.proofs.parser_state.repeat.Reads as repeat
 use Rattle.engine.proofs.parser_state.repeat.Kinds as repeat-kinds
-use Rattle.engine.proofs.parser_state.+atomic+left_side+lookahead+node+optional+repeat+restore_on_err+rule+sequence+simple+stack_push.Lts-repeat as repeat-lts
+use Rattle.engine.proofs.parser_state.+atomic+left_side+lookahead+node+optional+packed_node+repeat+restore_on_err+rule+sequence+simple+stack_push.Lts-repeat as repeat-lts
 use Rattle.engine.proofs.parser_state.restore_on_err.Reads as restore-on-err
 use Rattle.engine.proofs.parser_state.restore_on_err.Kinds as restore-on-err-kinds
-use Rattle.engine.proofs.parser_state.+atomic+left_side+lookahead+node+optional+repeat+restore_on_err+rule+sequence+simple+stack_push.Lts-restore_on_err as restore-on-err-lts
+use Rattle.engine.proofs.parser_state.+atomic+left_side+lookahead+node+optional+packed_node+repeat+restore_on_err+rule+sequence+simple+stack_push.Lts-restore_on_err as restore-on-err-lts
 use Rattle.engine.proofs.parser_state.rule.Reads as rule
 use Rattle.engine.proofs.parser_state.rule.Kinds as rule-kinds
-use Rattle.engine.proofs.parser_state.+atomic+left_side+lookahead+node+optional+repeat+restore_on_err+rule+sequence+simple+stack_push.Lts-rule as rule-lts
+use Rattle.engine.proofs.parser_state.+atomic+left_side+lookahead+node+optional+packed_node+repeat+restore_on_err+rule+sequence+simple+stack_push.Lts-rule as rule-lts
 use Rattle.engine.proofs.parser_state.sequence.Reads as sequence
 use Rattle.engine.proofs.parser_state.sequence.Kinds as sequence-kinds
-use Rattle.engine.proofs.parser_state.+atomic+left_side+lookahead+node+optional+repeat+restore_on_err+rule+sequence+simple+stack_push.Lts-sequence as sequence-lts
+use Rattle.engine.proofs.parser_state.+atomic+left_side+lookahead+node+optional+packed_node+repeat+restore_on_err+rule+sequence+simple+stack_push.Lts-sequence as sequence-lts
 use Rattle.engine.proofs.parser_state.simple.Reads as simple
 use Rattle.engine.proofs.parser_state.simple.Kinds as simple-kinds
-use Rattle.engine.proofs.parser_state.+atomic+left_side+lookahead+node+optional+repeat+restore_on_err+rule+sequence+simple+stack_push.Lts-simple as simple-lts
+use Rattle.engine.proofs.parser_state.+atomic+left_side+lookahead+node+optional+packed_node+repeat+restore_on_err+rule+sequence+simple+stack_push.Lts-simple as simple-lts
 use Rattle.engine.proofs.parser_state.stack_push.Reads as stack-push
 use Rattle.engine.proofs.parser_state.stack_push.Kinds as stack-push-kinds
-use Rattle.engine.proofs.parser_state.+atomic+left_side+lookahead+node+optional+repeat+restore_on_err+rule+sequence+simple+stack_push.Lts-stack_push as stack-push-lts
+use Rattle.engine.proofs.parser_state.+atomic+left_side+lookahead+node+optional+packed_node+repeat+restore_on_err+rule+sequence+simple+stack_push.Lts-stack_push as stack-push-lts
 use Rattle.engine.proofs.attempts.note.Reads as note-reads
 use Rattle.engine.proofs.endings.atomic_end.Reads as atomic-end-reads
 use Rattle.engine.proofs.endings.forgiven.Reads as forgiven-reads
@@ -54,6 +57,8 @@ use Rattle.engine.proofs.fields.set_lookahead.Reads as set-lookahead-re
 use Rattle.engine.proofs.fields.set_position.Reads as set-position-reads
 use Rattle.engine.proofs.leaves.walk.Reads as walk-reads
 use Rattle.engine.proofs.node.line_at.Reads as line-at-reads
+use Rattle.engine.proofs.packed.packed.Reads as packed-reads
+use Rattle.engine.proofs.packed.unpacked.Reads as unpacked-reads
 use Rattle.engine.proofs.parser_state.atomicity_of.Reads as atomicity-of-reads
 use Rattle.engine.proofs.parser_state.lookahead_in.Reads as lookahead-in-reads
 use Rattle.engine.proofs.parser_state.rule_line.Reads as rule-line-reads
@@ -67,37 +72,40 @@ use Rattle.engine.proofs.stack_state.checkpoint.Reads as checkpoint-rea
 use Prim.Native.Nat.{ℕ, _+_, _*_, _<_}
 
 abbrev pub μ-atomic : Measures 5 atomic-kinds.ps ℕ
-μ-atomic κs a = a .1 .1 .1 .1 .1 .1 .1 .0 * 4099
+μ-atomic κs a = a .1 .1 .1 .1 .1 .1 .1 .0 * 8196
 
 abbrev pub μ-left-side : Measures 5 left-side-kinds.ps ℕ
-μ-left-side κs a = a .1 .1 .1 .1 .1 .1 .1 .0 * 4099 + a .1 .1 .1 .1 .1 .1 .1 .1 .0 + 1
+μ-left-side κs a = a .1 .1 .1 .1 .1 .1 .1 .0 * 8196 + a .1 .1 .1 .1 .1 .1 .1 .1 .0 * 2 + 1
 
 abbrev pub μ-lookahead : Measures 5 lookahead-kinds.ps ℕ
-μ-lookahead κs a = a .1 .1 .1 .1 .1 .1 .1 .0 * 4099
+μ-lookahead κs a = a .1 .1 .1 .1 .1 .1 .1 .0 * 8196
 
 abbrev pub μ-node : Measures 5 node-kinds.ps ℕ
-μ-node κs a = a .1 .1 .1 .1 .1 .1 .1 .0 * 4099 + a .1 .1 .1 .1 .1 .1 .1 .1 .0 + 2
+μ-node κs a = a .1 .1 .1 .1 .1 .1 .1 .0 * 8196 + a .1 .1 .1 .1 .1 .1 .1 .1 .0 * 2 + 3
 
 abbrev pub μ-optional : Measures 5 optional-kinds.ps ℕ
-μ-optional κs a = a .1 .1 .1 .1 .1 .1 .1 .0 * 4099
+μ-optional κs a = a .1 .1 .1 .1 .1 .1 .1 .0 * 8196
+
+abbrev pub μ-packed-node : Measures 5 packed-node-kinds.ps ℕ
+μ-packed-node κs a = a .1 .1 .1 .1 .1 .1 .1 .0 * 8196 + a .1 .1 .1 .1 .1 .1 .1 .1 .0 * 2 + 2
 
 abbrev pub μ-repeat : Measures 5 repeat-kinds.ps ℕ
-μ-repeat κs a = a .1 .1 .1 .1 .1 .1 .1 .0 * 4099
+μ-repeat κs a = a .1 .1 .1 .1 .1 .1 .1 .0 * 8196
 
 abbrev pub μ-restore-on-err : Measures 5 restore-on-err-kinds.ps ℕ
-μ-restore-on-err κs a = a .1 .1 .1 .1 .1 .1 .1 .0 * 4099
+μ-restore-on-err κs a = a .1 .1 .1 .1 .1 .1 .1 .0 * 8196
 
 abbrev pub μ-rule : Measures 5 rule-kinds.ps ℕ
-μ-rule κs a = a .1 .1 .1 .1 .1 .1 .1 .0 * 4099
+μ-rule κs a = a .1 .1 .1 .1 .1 .1 .1 .0 * 8196
 
 abbrev pub μ-sequence : Measures 5 sequence-kinds.ps ℕ
-μ-sequence κs a = a .1 .1 .1 .1 .1 .1 .1 .0 * 4099
+μ-sequence κs a = a .1 .1 .1 .1 .1 .1 .1 .0 * 8196
 
 abbrev pub μ-simple : Measures 5 simple-kinds.ps ℕ
-μ-simple κs a = a .1 .1 .1 .1 .1 .1 .1 .0 * 4099 + 1
+μ-simple κs a = a .1 .1 .1 .1 .1 .1 .1 .0 * 8196 + 1
 
 abbrev pub μ-stack-push : Measures 5 stack-push-kinds.ps ℕ
-μ-stack-push κs a = a .1 .1 .1 .1 .1 .1 .1 .0 * 4099
+μ-stack-push κs a = a .1 .1 .1 .1 .1 .1 .1 .0 * 8196
 
 abbrev pub atomic-at : ℕ → In 5 atomic-kinds.ps
 atomic-at t = and 5 atomic-kinds.ps (is 5 atomic-kinds.ps μ-atomic t) atomic.Pre
@@ -131,6 +139,14 @@ optional-at t = and 5 optional-kinds.ps (is 5 optional-kinds.ps μ-optional t) o
 abbrev pub optional-below : ℕ → In 5 optional-kinds.ps
 optional-below t =
     and 5 optional-kinds.ps (falls 5 optional-kinds.ps _<_ μ-optional t) optional.Pre
+
+abbrev pub packed-node-at : ℕ → In 5 packed-node-kinds.ps
+packed-node-at t =
+    and 5 packed-node-kinds.ps (is 5 packed-node-kinds.ps μ-packed-node t) packed-node.Pre
+
+abbrev pub packed-node-below : ℕ → In 5 packed-node-kinds.ps
+packed-node-below t =
+    and 5 packed-node-kinds.ps (falls 5 packed-node-kinds.ps _<_ μ-packed-node t) packed-node.Pre
 
 abbrev pub repeat-at : ℕ → In 5 repeat-kinds.ps
 repeat-at t = and 5 repeat-kinds.ps (is 5 repeat-kinds.ps μ-repeat t) repeat.Pre
@@ -191,10 +207,13 @@ abbrev pub lookahead-calls : ℕ → lookahead-lts.Claims
 lookahead-calls t = (line-at-reads.Asked, line-at-reads.Learnt, enter-reads.Asked, enter-reads.Learnt, position-reads.Asked, position-reads.Learnt, lookahead-reads.Asked, lookahead-reads.Learnt, lookahead-in-reads.Asked, lookahead-in-reads.Learnt, set-lookahead-reads.Asked, set-lookahead-reads.Learnt, checkpoint-reads.Asked, checkpoint-reads.Learnt, node-below t, node.Post, lookahead-end-reads.Asked, lookahead-end-reads.Learnt)
 
 abbrev pub node-calls : ℕ → node-lts.Claims
-node-calls t = (position-reads.Asked, position-reads.Learnt, walk-reads.Asked, walk-reads.Learnt, set-position-reads.Asked, set-position-reads.Learnt, ended-reads.Asked, ended-reads.Learnt, line-at-reads.Asked, line-at-reads.Learnt, left-side-below t, left-side.Post, goes-right-reads.Asked, goes-right-reads.Learnt)
+node-calls t = (packed-node-below t, packed-node.Post, unpacked-reads.Asked, unpacked-reads.Learnt)
 
 abbrev pub optional-calls : ℕ → optional-lts.Claims
 optional-calls t = (line-at-reads.Asked, line-at-reads.Learnt, enter-reads.Asked, enter-reads.Learnt, node-below t, node.Post, optional-end-reads.Asked, optional-end-reads.Learnt)
+
+abbrev pub packed-node-calls : ℕ → packed-node-lts.Claims
+packed-node-calls t = (position-reads.Asked, position-reads.Learnt, walk-reads.Asked, walk-reads.Learnt, set-position-reads.Asked, set-position-reads.Learnt, ended-reads.Asked, ended-reads.Learnt, packed-reads.Asked, packed-reads.Learnt, line-at-reads.Asked, line-at-reads.Learnt, left-side-below t, left-side.Post, goes-right-reads.Asked, goes-right-reads.Learnt)
 
 abbrev pub repeat-calls : ℕ → repeat-lts.Claims
 repeat-calls t = (line-at-reads.Asked, line-at-reads.Learnt, enter-reads.Asked, enter-reads.Learnt, node-below t, node.Post, forgiven-reads.Asked, forgiven-reads.Learnt)
