@@ -18,7 +18,7 @@ use Rattle.engine.specs.declared.attempts.Attempts.{Attempts}
 use Rattle.engine.specs.declared.stack.Stack.{Stack}
 use Rattle.reading.specs.Ending.{if_then_else_}
 use Rattle.engine.specs.Fields as Fields
-use Rattle.engine.specs.Fields.{fields, state-from, lookahead-of, atomicity-of, reached-of}
+use Rattle.engine.specs.Fields.{state-size, fields, state-from, lookahead-of, atomicity-of, reached-of}
 
 abbrev numbers : List ℕ → ℕ → ℕ
 numbers a i = getD a i 0
@@ -37,20 +37,20 @@ stored : (a : List ℕ) (k v : ℕ) → k < length a → numbers (set a k v) ≡
 stored a k v h = fun-ext (stored-at a k v h)
 
 -- A number of the state has its place, also after stores.
-pub below : (a : List ℕ) (k : ℕ) → 13 ≤ length a → k < 13 → k < length a
+pub below : (a : List ℕ) (k : ℕ) → state-size ≤ length a → k < state-size → k < length a
 below a k h i = omega arith
 
-pub below-set : (a : List ℕ) (i x k : ℕ) → 13 ≤ length a → k < 13 → k < length (set a i x)
+pub below-set : (a : List ℕ) (i x k : ℕ) → state-size ≤ length a → k < state-size → k < length (set a i x)
 below-set a i x k h j = omega (arith, length-set a i x)
 
-pub below-sets : (a : List ℕ) (i x j y k : ℕ) → 13 ≤ length a → k < 13 → k < length (set (set a i x) j y)
+pub below-sets : (a : List ℕ) (i x j y k : ℕ) → state-size ≤ length a → k < state-size → k < length (set (set a i x) j y)
 below-sets a i x j y k h l = omega (arith, length-set (set a i x) j y, length-set a i x)
 
-pub fields-set : (a : List ℕ) (k v : ℕ) → 13 ≤ length a → k < 13 → fields (set a k v) ≡ state-from (with k v (numbers a))
+pub fields-set : (a : List ℕ) (k v : ℕ) → state-size ≤ length a → k < state-size → fields (set a k v) ≡ state-from (with k v (numbers a))
 unfolding fields
 fields-set a k v h i = ap state-from (stored a k v (below a k h i))
 
-pub fields-sets : (a : List ℕ) (i x j y k z : ℕ) → 13 ≤ length a → i < 13 → j < 13 → k < 13
+pub fields-sets : (a : List ℕ) (i x j y k z : ℕ) → state-size ≤ length a → i < state-size → j < state-size → k < state-size
     → fields (set (set (set a i x) j y) k z) ≡ state-from (with k z (with j y (with i x (numbers a))))
 unfolding fields
 fields-sets a i x j y k z h u v w =
@@ -89,7 +89,7 @@ module _ (a : List ℕ) where
   atomicity-is x e = e
 
 -- ── Each field, stored ──
-module _ (a : List ℕ) (h : 13 ≤ length a) where
+module _ (a : List ℕ) (h : state-size ≤ length a) where
   pub position-set : (p : BytePosition) → fields (set a 0 (p .0)) ≡ Fields.set-position p (fields a)
   unfolding fields
   position-set p = fields-set a 0 (p .0) h (omega arith)

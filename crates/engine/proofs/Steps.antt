@@ -18,6 +18,7 @@ use Rattle.reading.specs.declared.parser_state.Cause.the-variants as Cause-of
 use Rattle.reading.specs.declared.call_limit_tracker.LimitKind.the-variants as LimitKind
 use Rattle.engine.specs.declared.attempts.Noted.{Noted}
 use Rattle.engine.specs.Fields as Code
+use Rattle.engine.specs.Fields.{state-size}
 use Rattle.engine.specs.declared.parser_state.Ending as Coded
 use Rattle.engine.specs.declared.parser_state.Ending.the-variants as Coded-of
 use Rattle.reading.specs.Ending.{if_then_else_, Ending, Ok, Err, Stop, on-ok, stop-if}
@@ -67,7 +68,7 @@ passed-test true e = refl
 passed-test false e = absurd (true≢false e)
 
 -- The state's area keeps its size.
-pub wide-on : {n k : ℕ} → 13 ≤ n → k ≡ n → 13 ≤ k
+pub wide-on : {n k : ℕ} → state-size ≤ n → k ≡ n → state-size ≤ k
 wide-on h e = omega arith
 
 -- ── An entry ──

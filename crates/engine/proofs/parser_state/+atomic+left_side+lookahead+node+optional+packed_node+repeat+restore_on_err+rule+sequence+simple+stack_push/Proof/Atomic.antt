@@ -9,7 +9,7 @@ use mathlib.Core.Bool.{true}
 use Prim.Native.Nat.{_-_, _≤_}
 use lib.Dec.{ltb}
 use lib.ListN.{length}
-use Rattle.engine.specs.Fields.{fields}
+use Rattle.engine.specs.Fields.{state-size, fields}
 use Rattle.engine.specs.Areas.{view}
 use Rattle.engine.specs.Entry.{opened, entering}
 use Rattle.engine.specs.Evaluation.{Ready}
@@ -50,7 +50,7 @@ module _ (t : ℕ) where
 
   wide : (c : atomic-lts.Else1 (atomic-calls t) (atomic-at t) atomic.Post) →
       let at-enter = c .before .before .before in
-      13 ≤ length (at-enter .enter .last .0)
+      state-size ≤ length (at-enter .enter .last .0)
   wide c =
       let at-enter = c .before .before .before in
       let S = c .before .before .before .before .before .before .before .before .before .before .before in

@@ -10,7 +10,7 @@ use Prim.Native.Nat.{_-_, _≤_}
 use native.Mathlib.Omega.{arith}
 use lib.Dec.{ltb}
 use lib.ListN.{length}
-use Rattle.engine.specs.Fields.{fields}
+use Rattle.engine.specs.Fields.{state-size, fields}
 use Rattle.engine.specs.Areas.{view}
 use Rattle.engine.specs.Entry.{opened, entering}
 use Rattle.engine.specs.Evaluation.{Ready}
@@ -54,7 +54,7 @@ module _ (t : ℕ) where
 
   wide : (c : rule-lts.Else1 (rule-calls t) (rule-at t) rule.Post) →
       let at-enter = c .before .before .before in
-      13 ≤ length (at-enter .enter .last .0)
+      state-size ≤ length (at-enter .enter .last .0)
   wide c =
       let at-enter = c .before .before .before in
       let S = c .before .before .before .before .before .before .before .before .before .before .before in

@@ -8,7 +8,7 @@ use mathlib.Core.Bool.{true}
 use Prim.Native.Nat.{_-_, _≤_}
 use lib.Dec.{ltb}
 use lib.ListN.{length}
-use Rattle.engine.specs.Fields.{fields}
+use Rattle.engine.specs.Fields.{state-size, fields}
 use Rattle.engine.specs.Areas.{view}
 use Rattle.engine.specs.Entry.{opened, entering}
 use Rattle.engine.specs.Evaluation.{Ready}
@@ -45,7 +45,7 @@ module _ (t : ℕ) where
 
   wide : (c : sequence-lts.Else1 (sequence-calls t) (sequence-at t) sequence.Post) →
       let at-enter = c .before .before .before in
-      13 ≤ length (at-enter .enter .last .0)
+      state-size ≤ length (at-enter .enter .last .0)
   wide c =
       let at-enter = c .before .before .before in
       let S = c .before .before .before .before .before .before .before .before .before .before .before in

@@ -9,7 +9,7 @@ use Prim.Native.Nat.{_≤_}
 use native.Mathlib.Omega.{arith}
 use lib.Dec.{ltb}
 use lib.ListN.{length}
-use Rattle.engine.specs.Fields.{fields}
+use Rattle.engine.specs.Fields.{state-size, fields}
 use Rattle.engine.specs.Areas.{view}
 use Rattle.engine.specs.Entry.{opened, entering}
 use Rattle.engine.specs.Evaluation.{Ready}
@@ -46,7 +46,7 @@ module _ (t : ℕ) where
 
   wide : (c : stack-push-lts.Else1 (stack-push-calls t) (stack-push-at t) stack-push.Post) →
       let at-enter = c .before .before .before in
-      13 ≤ length (at-enter .enter .last .0)
+      state-size ≤ length (at-enter .enter .last .0)
   wide c =
       let at-enter = c .before .before .before in
       let S = c .before .before .before .before .before .before .before .before .before .before .before in
