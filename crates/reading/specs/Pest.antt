@@ -1,7 +1,12 @@
--- pest 2.9.5's own state and methods, carried over from parser_state.rs, stack.rs, queueable_token.rs and position.rs under pest's
--- names. A Vec is a list: the queue and the attempts in the order of their indexes, the stack's three Vecs with the last first.
+-- pest 2.9.5's own state and methods, carried over from parser_state.rs, stack.rs, queueable_token.rs, position.rs and span.rs under
+-- pest's names. A Vec is a list: the queue and the attempts in the order of their indexes, the stack's three Vecs with the last first.
 -- A Vec that has no room for one more stops where `bounded` is true: document 01's stops 14 to 16. With `bounded` false nothing
--- but a failed `expect` stops, and this is pest.
+-- but a failed `expect` stops, and this is pest. Left out is `parse_attempts`, which only error detail reads, and that is off.
+--
+-- The reading and pest's side share these definitions, so no law between the two can see a mistake in them, only rust/'s comparison
+-- with pest can. Of matching: `decode` and `within` (a character, and whether it is in a range), `past` (the step over one),
+-- `same-folded`, `bytes-of`. Of Grammar: which tree a line stands for, and `rule-at`. Of Ending: `on-ok` and `on-err` (kinds 6 and 7),
+-- `is-none`, `is-negative`, `is-atomic`. Of Reading: `is-set`; and for the stops alone, which pest does not have, `debt` and the bounds.
 use mathlib.Core.Bool.{Bool, true, false, _&&_, _||_, not}
 use mathlib.Core.List.{List, [], _∷_, _++_, reverse}
 use mathlib.Core.Option.{Option, none, some}
@@ -10,8 +15,8 @@ use lib.IntN.{ℤ, pos, negsuc, _+ℤ_}
 use lib.Signed.{ltZ, nonNeg}
 use lib.ListN.{length, getD, take, drop, set}
 use lib.Dec.{eqb, ltb, leb}
-use Rattle.matching.specs.Utf8.{decode, within, tail}
-use Rattle.matching.specs.Position.{past, same-folded, bytes-of}
+use Rattle.matching.specs.Utf8.{decode, within}
+use Rattle.matching.specs.Position.{past, same-folded, is-char-boundary, bytes-of}
 use Rattle.reading.specs.declared.parser_state.Lookahead.{Lookahead}
 use Rattle.reading.specs.declared.parser_state.Lookahead.the-variants.{Positive, Negative, None}
 use Rattle.reading.specs.declared.parser_state.Atomicity.{Atomicity}
@@ -360,9 +365,9 @@ same-bytes same [] (y ∷ ys) = false
 same-bytes same (x ∷ xs) [] = false
 same-bytes same (x ∷ xs) (y ∷ ys) = same x y && same-bytes same xs ys
 
--- `str::is_char_boundary`, which `slice.get(0..len)` asks
-abbrev pub is-char-boundary : ℕ → List ℕ → Bool
-is-char-boundary n x = eqb n 0 || (eqb n (length x) || not (within (tail .low) (tail .high) (getD x n 0)))
+-- `slice.get(0..len)` of a `str` gives a part that ends at a character boundary, or none
+abbrev pub has-part : (slice : List ℕ) → (len : ℕ) → Bool
+has-part slice len = leb len (length slice) && is-char-boundary slice len
 
 -- `for _ in 0..n` over `chars()`: the bytes skipped
 abbrev pub skipped : ℕ → List ℕ → (len : ℕ) → Option ℕ
@@ -382,7 +387,7 @@ module _ (input : List ℕ) where
   abbrev pub match-insensitive : List ℕ → ℕ → Option ℕ
   match-insensitive string p =
       let slice : List ℕ = drop p input in
-      if leb (length string) (length slice) && is-char-boundary (length string) slice && same-bytes same-folded string (take (length string) slice) then some (p + length string) else none
+      if has-part slice (length string) && same-bytes same-folded string (take (length string) slice) then some (p + length string) else none
 
   abbrev pub match-range : (start end : ℕ) → ℕ → Option ℕ
   match-range start end p = past (within start end) p (decode (drop p input))
