@@ -562,6 +562,15 @@ numbered g (Stop (Cause.TokensFull l)) = other-end 14 (omega arith)
 numbered g (Stop (Cause.StackFull l)) = other-end 15 (omega arith)
 numbered g (Stop (Cause.AttemptsFull l)) = other-end 16 (omega arith)
 
+-- A match that gives 0 has no cause.
+pub no-cause : (s : State) → answer (Ok s) .number ≡ 0 → s .tracker .cause ≡ none
+no-cause s = go (s .tracker .cause)
+  where
+    go : (c : Option LimitKind) → (elim c as (λ x. Answer) [ some k ↦ of-limit k (s .attempts .furthest) | none ↦ of-tokens (tokens (s .siblings)) ]) .number ≡ 0 → c ≡ none
+    go none q = refl
+    go (some LimitKind.Call) q = absurd (omega arith)
+    go (some LimitKind.Stack) q = absurd (omega arith)
+
 module _ (g : Setting) (set : ℕ → Bool) (w : Tested g set) (lines : ℕ → Type 0) (v : PlainRules g lines) (u : Utf8 (g .text))
     (depth limit : ℕ) (e : Exp) (p : Plain e) (c : Calls lines e) (y : Literals e) (z : Steady set e) where
   abbrev run : Ending State
