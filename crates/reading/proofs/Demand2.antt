@@ -17,7 +17,7 @@ use Rattle.reading.specs.Run.{Ran}
 use Rattle.reading.specs.Demand2.{Relates, Consumes, Fails, up-to, MatchOrFailure, Demand2}
 use Rattle.reading.proofs.FordLaws.{ford-unique}
 use Rattle.reading.proofs.Agree.{Runs, runs-ok, runs-err}
-use Rattle.reading.proofs.Runs.{agree, ford-0, ford-10, left-over, split-text, outcome-is}
+use Rattle.reading.proofs.Runs.{agree, loops-alike, ford-0, ford-10, left-over, split-text, outcome-is}
 
 no-stop : (r : Ending State) → answer r .number ≤ 12 → Runs r
 no-stop (Ok s) h = runs-ok s
@@ -74,7 +74,8 @@ module _ (i : Input) (e : refusal i ≡ none) where
 
   of-started : Demand2 i (started i (answer (reading i)))
   of-started = record {
-    state = λ h. ap (started i) (agree i e (no-stop (reading i) h));
+    state = λ h spent. ap (started i) (agree i e (no-stop (reading i) h) spent);
+    loops = loops-alike i e;
     matches = zero-exactly;
     fails = ten-exactly;
     consumed = consumed-exactly;

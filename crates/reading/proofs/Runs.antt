@@ -27,6 +27,7 @@ use Rattle.reading.proofs.Trees.{Literals, Steady}
 use Rattle.reading.proofs.QueueLaws.{top}
 use Rattle.reading.proofs.Invariant.{Tested, Keeps, keeps-ok, keeps-err, keeps-stop, KeepsFrom, eval-keeps}
 use Rattle.reading.proofs.Simulation.{Sim, sim-ok, sim-err, sim-stop, pest-of, held-is}
+use Rattle.reading.proofs.Rounds.{ending-alike}
 use Rattle.reading.proofs.Agree.{initial-fit, initial-is, run-sim, alike, agree-at, Runs}
 use Rattle.reading.proofs.CharacterLaws.{characters-split}
 use Rattle.reading.proofs.Recognition.{PlainRules, Recognised, matched, no-cause, ford-at, ford-parsed, ford-failed}
@@ -61,11 +62,15 @@ module _ (i : Input) (e : refusal i ≡ none) where
 
   -- ── Demand 2: `state` ──
   -- A run that stops for no added reason answers what pest's `state` gives: number, tokens, furthest, sorted rules.
-  pub agree : Runs (reading i) → answer (reading i) ≡ answer-to (Pest.state (setting i) (i .depth-limit) (i .call-limit) at-root)
+  pub agree : Runs (reading i) → (spent : ParserState → Ending ParserState) → answer (reading i) ≡ answer-to (Pest.state spent (setting i) (i .depth-limit) (i .call-limit) at-root)
   unfolding reading
-  agree h = agree-at (setting i) (rule-still (i .nodes)) (tested i g) (s .text-whole) (i .depth-limit) (i .call-limit) at-root root-literals root-steady h
+  agree h spent = agree-at (setting i) (rule-still (i .nodes)) (tested i g) (s .text-whole) (i .depth-limit) (i .call-limit) at-root root-literals root-steady h spent
 
-  -- The same of every run, stops included, with pest that has document 01's bounds.
+  -- No loop of pest's uses up its rounds, stops included: whatever stands for that, a run's ending is the same.
+  pub loops-alike : (spent other : ParserState → Ending ParserState) → Pest.ending spent (setting i) (i .depth-limit) (i .call-limit) at-root ≡ Pest.ending other (setting i) (i .depth-limit) (i .call-limit) at-root
+  loops-alike spent other = ending-alike (setting i) (rule-still (i .nodes)) (tested i g) spent other (s .text-whole) (i .depth-limit) (i .call-limit) at-root root-literals root-steady
+
+  -- Every run, stops included, and pest that has document 01's bounds.
   pub run-alike : answer (reading i) ≡ pest-answer (Pest.eval (setting i) true (i .depth-limit) at-root (Pest.new (i .call-limit)))
   unfolding reading
   run-alike = alike (setting i) (rule-still (i .nodes)) (tested i g) (s .text-whole) (i .depth-limit) (i .call-limit) at-root root-literals root-steady
