@@ -34,6 +34,7 @@ use Rattle.reading.specs.Fit.{Fit}
 use Rattle.reading.proofs.Invariant.{Tested}
 use Rattle.reading.proofs.Simulation.{Sim, sim-ok, sim-err, sim-stop, eval-sim, pest-of, Good}
 use Rattle.reading.proofs.Unbounded.{Freed, freed, freed-stop, eval-frees}
+use Rattle.reading.proofs.Rounds.{ending-alike}
 
 -- ── sort and dedup ──
 dedup-in-insert : (y x : ℕ) (l : List ℕ) → y < x → dedup-in y (insert x l) ≡ insert x (dedup-in y l)
@@ -161,9 +162,9 @@ result-is x (ends-err m) = go (m .call-tracker .limit-reached)
     go none = rw (ascending-is (m .pos-attempts), ascending-is (m .neg-attempts))
 
 module _ (g : Setting) (set : ℕ → Bool) (w : Tested g set) (u : Utf8 (g .text)) (depth limit : ℕ) (e : Exp) (y : Literals e) (z : Steady set e) where
-  -- Demand 2, the first half: a run that does not stop answers what `state` gives.
-  pub agree-at : Runs (Reading.eval g depth e (initial limit)) → answer (Reading.eval g depth e (initial limit)) ≡ answer-to (state g depth limit e)
-  agree-at h = go _ _ _ (run-sim g set w u depth limit e y z) h (eval-frees g depth e (Pest.new limit))
+  -- Demand 2, the first half: a run that does not stop answers what `state` gives, and no loop of pest's uses up its rounds.
+  pub agree-at : Runs (Reading.eval g depth e (initial limit)) → (spent : ParserState → Ending ParserState) → answer (Reading.eval g depth e (initial limit)) ≡ answer-to (state spent g depth limit e)
+  agree-at h spent = go _ _ _ (run-sim g set w u depth limit e y z) h (eval-frees g depth e (Pest.new limit)) ∙ ap (λ (x : Ending ParserState). answer-to (Pest.result-of x)) (ending-alike g set w (λ t. Err t) spent u depth limit e y z)
     where
       go : (r : Ending State) (m n : Ending ParserState) → Sim top [] (initial limit .lookahead) (initial limit .atomicity) (initial limit .siblings) r m → Runs r → Freed m n → answer r ≡ answer-to (Pest.result-of n)
       go r m n (sim-ok s p i k) q (freed x) = answers _ _ (sim-ok s p i k) ∙ result-is _ (ends-ok (pest-of top p s))

@@ -2,16 +2,20 @@
 -- four forms, in which the value fixes the size and every byte, and folding changes characters of one byte only.
 use mathlib.Core.Path.{_≡_, refl, sym, ap, _∙_, subst}
 use mathlib.Core.Bool.{Bool, true, false, _&&_, cond}
-use mathlib.Core.List.{List, [], _∷_}
+use mathlib.Core.List.{List, [], _∷_, _++_}
 use mathlib.Core.Option.{Option, none, some}
 use Prim.Native.Nat.{ℕ, _+_, _-_, _*_, _≤_, _<_}
 use native.Mathlib.Omega.{arith}
-use lib.ListN.{length, drop}
+use lib.ListN.{length, take, drop, take-append-drop}
+use lib.Seq.{take-append-seam, drop-append-le}
 use lib.Dec.{eqb, leb}
 use borrow.Author.Tests.{eqb-true, eqb-false, eq-eqb, ne-eqb, leb-true}
-use Rattle.matching.specs.Utf8.{Range, range, tail, utf8-char, within, fits, value-of, Character, first-of, decode, Utf8, utf8-end, utf8-next, after-value, characters, is-some}
+use Rattle.matching.specs.Utf8.{Range, range, tail, utf8-char, within, fits, value-of, Character, first-of, decode, Utf8, utf8-end, utf8-next, after-value, characters, is-some, Edge}
 use Rattle.matching.specs.Position.{starts-by, fold-case, same-folded}
 use Rattle.matching.proofs.Lead.{and-left, and-right, within-true, decode-nil}
+use Rattle.matching.proofs.Forward.{char-size}
+use Rattle.matching.proofs.Agree.{decode-grow}
+use Rattle.matching.proofs.Edges.{between}
 use Rattle.matching.proofs.Characters.{characters-nil, characters-next, is-utf8-iff}
 use Rattle.reading.specs.Ford.{or-nil, characters-of}
 
@@ -276,3 +280,28 @@ pub data Begins (x : List ℕ) : Type 0 where
 pub begins : (x : List ℕ) → Utf8 x → Begins x
 begins x utf8-end = no-character refl decode-nil of-nil
 begins x (utf8-next x′ c e u) = a-character c e u (of-next x′ c e u)
+
+-- ── A text in two parts ──
+-- The first character of a text is the first of what it begins.
+decode-longer : (x y : List ℕ) (c : Character) → decode x ≡ some c → decode (x ++ y) ≡ some c
+decode-longer x y c e = decode-grow (length x) (x ++ y) c (ap decode (take-append-seam x y) ∙ e)
+
+rest-longer : (x y : List ℕ) (c : Character) → decode x ≡ some c → drop (c .size) (x ++ y) ≡ drop (c .size) x ++ y
+rest-longer x y c e = drop-append-le (c .size) x y (omega (arith, char-size x c e))
+
+whole-append : (x : List ℕ) → Utf8 x → (y : List ℕ) → Utf8 y → Utf8 (x ++ y)
+whole-append x utf8-end y v = v
+whole-append x (utf8-next x′ c e u) y v = utf8-next (x′ ++ y) c (decode-longer x′ y c e) (subst Utf8 (sym (rest-longer x′ y c e)) (whole-append (drop (c .size) x′) u y v))
+
+characters-append : (x : List ℕ) → Utf8 x → (y : List ℕ) → Utf8 y → characters-of (x ++ y) ≡ characters-of x ++ characters-of y
+characters-append x utf8-end y v = rw of-nil
+characters-append x (utf8-next x′ c e u) y v =
+    let l : drop (c .size) (x′ ++ y) ≡ drop (c .size) x′ ++ y = rest-longer x′ y c e in
+    of-next (x′ ++ y) c (decode-longer x′ y c e) (subst Utf8 (sym l) (whole-append (drop (c .size) x′) u y v))
+    ∙ ap (λ (z : List ℕ). c .value ∷ z) (ap characters-of l ∙ characters-append (drop (c .size) x′) u y v)
+    ∙ ap (λ (z : List ℕ). z ++ characters-of y) (sym (of-next x′ c e u))
+
+-- The characters before an edge of a text, and those after it.
+pub characters-split : (p : ℕ) (x : List ℕ) → Utf8 x → Edge x p → characters-of x ≡ characters-of (take p x) ++ characters-of (drop p x)
+characters-split p x u e =
+    ap characters-of (sym (take-append-drop p x)) ∙ characters-append (take p x) (between p x u (e .inside) (e .whole)) (drop p x) (e .whole)

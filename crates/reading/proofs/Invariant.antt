@@ -26,7 +26,7 @@ use Rattle.reading.specs.declared.call_limit_tracker.LimitKind.the-varia
 use Rattle.reading.specs.Ending.{if_then_else_, Ending, Ok, Err, Stop, on-ok, on-err, stop-if, Span, Checkpoint, is-negative, is-none, is-atomic}
 use Rattle.reading.specs.Grammar as Grammar
 use Rattle.reading.specs.Grammar.{Exp, RuleLine}
-use Rattle.reading.specs.Reading.{Setting, most-entries, most-debt, most-attempts, debt}
+use Rattle.reading.specs.Reading.{Setting, most-entries, most-debt, most-attempts, most-rounds, debt}
 use Rattle.reading.specs.Pest as Pest
 use Rattle.reading.specs.Pest.{ParserState, Stack, QueueableToken, Entered, level, eval, no-deeper}
 use Rattle.reading.specs.Fit.{Entries, Fit}
@@ -56,7 +56,7 @@ KeepsFrom g b m r = Keeps g b (m .position) (m .lookahead) (m .atomicity) (lengt
 abbrev pub Keeping : Setting → Bool → (ParserState → Ending ParserState) → Type 0
 Keeping g b f = (m : ParserState) → Fit g m → KeepsFrom g b m (f m)
 
-not-true : {A : Type 0} → true ≡ false → A
+pub not-true : {A : Type 0} → true ≡ false → A
 not-true e = let z : _≡_ {A = ℕ} 0 1 = cc in absurd (omega arith)
 
 -- ── Entries ──
@@ -147,15 +147,15 @@ module _ (g : Setting) where
   later x h r (keeps-stop c) = keeps-stop c
 
   -- ── Kinds 6 and 7 ──
-  and-false : (a b : Bool) → (a && b) ≡ false → (a ≡ false) ⊎ (b ≡ false)
+  pub and-false : (a b : Bool) → (a && b) ≡ false → (a ≡ false) ⊎ (b ≡ false)
   and-false true b e = inr e
   and-false false b e = inl refl
 
-  or-left : (a b : Bool) → (a || b) ≡ false → a ≡ false
+  pub or-left : (a b : Bool) → (a || b) ≡ false → a ≡ false
   or-left true b e = e
   or-left false b e = refl
 
-  or-right : (a b : Bool) → (a || b) ≡ false → b ≡ false
+  pub or-right : (a b : Bool) → (a || b) ≡ false → b ≡ false
   or-right true b e = not-true e
   or-right false b e = e
 
@@ -412,7 +412,7 @@ module _ (g : Setting) where
       room true d = keeps-stop _
       room false d = same-marks _ (h (popped-fit x rest m e f d))
 
-  entry-lands : (x : Span) → Utf8 (Pest.as-str (g .text) x) → (p : ℕ) → Edge (g .text) p → Lands (g .text) p (Pest.match-string (g .text) (Pest.as-str (g .text) x) p)
+  pub entry-lands : (x : Span) → Utf8 (Pest.as-str (g .text) x) → (p : ℕ) → Edge (g .text) p → Lands (g .text) p (Pest.match-string (g .text) (Pest.as-str (g .text) x) p)
   entry-lands x u p e = rw (← string-same (g .text) (Pest.as-str (g .text) x) p) (string-lands (g .text) eqb eqb-keeps (Pest.as-str (g .text) x) u p e)
 
   -- A match of which nothing is asked but an edge.
@@ -428,7 +428,7 @@ module _ (g : Setting) where
       go (x ∷ rest) e = popping-keeps line x rest m e f (λ n. Pest.moved (Pest.match-string (g .text) (Pest.as-str (g .text) x) (n .position)) n)
           (λ w. landed-keeps (Pest.set-stack (Pest.pop x rest (m .stack)) m) w _ (entry-lands x (subst (Entries (g .text)) e (f .entries) .0) (m .position) (f .edge)))
 
-  cache-of-pop : (x : Span) (rest : List Span) (v : Stack) → Pest.pop x rest v .cache ≡ rest
+  pub cache-of-pop : (x : Span) (rest : List Span) (v : Stack) → Pest.pop x rest v .cache ≡ rest
   cache-of-pop x rest v = go (v .lengths)
     where
       go : (ks : List Checkpoint) → Pest.pop-onto x rest (v .popped) ks .cache ≡ rest
@@ -455,7 +455,7 @@ module _ (g : Setting) where
       go w y lands-not ih = keeps-err n (stay n w)
       go w y (lands r k e) ih = ih r (omega arith) e
 
-  all-land : (vs : List Span) → Entries (g .text) vs → (p : ℕ) → Edge (g .text) p → Lands (g .text) p (Pest.all-match (g .text) vs p)
+  pub all-land : (vs : List Span) → Entries (g .text) vs → (p : ℕ) → Edge (g .text) p → Lands (g .text) p (Pest.all-match (g .text) vs p)
   all-land [] u p e = lands p (omega arith) e
   all-land (v ∷ vs) u p e = go _ (entry-lands v (u .0) p e) (λ q. all-land vs (u .1) q)
     where
@@ -666,7 +666,7 @@ module _ (g : Setting) where
       go true = room (leb (g .capacity) (length (m .queue))) refl
 
 -- ── All kinds ──
-zero-or-more : (n : ℕ) → eqb n 0 ≡ false → 1 ≤ n
+pub zero-or-more : (n : ℕ) → eqb n 0 ≡ false → 1 ≤ n
 zero-or-more n e =
     let h : n ≢ 0 = eqb-false n 0 e in
     omega arith
@@ -712,7 +712,7 @@ module _ (g : Setting) (set : ℕ → Bool) (w : Tested g set) where
     level-keeps (Grammar.or-else a b) u y = or-keeps g (still set a) (still set b) (level g true room d a) (level g true room d b) (level-keeps a (u .0) (y .0)) (level-keeps b (u .1) (y .1))
     level-keeps (Grammar.rule line r e) u y = counted-keeps (still set e) (λ m. Pest.rule g true line r (d e) m) (rule-keeps g line r (still set e) (d e) (h e u y))
     level-keeps (Grammar.sequence e) u y = counted-keeps (still set e) (λ m. Pest.sequence (d e) m) (sequence-keeps g (still set e) (d e) (h e u y))
-    level-keeps (Grammar.repeat e) u y = counted-keeps true (λ m. Pest.repeat (suc (length (g .text) - m .position)) (d e) m) (λ m x. repeat-keeps g (d e) (still set e) (h e u (y .1)) (suc (length (g .text) - m .position)) m x)
+    level-keeps (Grammar.repeat e) u y = counted-keeps true (λ m. Pest.repeat (most-rounds g (m .position)) (d e) m) (λ m x. repeat-keeps g (d e) (still set e) (h e u (y .1)) (most-rounds g (m .position)) m x)
     level-keeps (Grammar.optional e) u y = counted-keeps true (λ m. Pest.optional (d e m)) (optional-keeps g (still set e) (d e) (h e u y))
     level-keeps (Grammar.lookahead b e) u y = counted-keeps true (λ m. Pest.lookahead b (d e) m) (lookahead-keeps g b (still set e) (d e) (h e u y))
     level-keeps (Grammar.atomic a e) u y = counted-keeps (still set e) (λ m. Pest.atomic a (d e) m) (atomic-keeps g a (still set e) (d e) (h e u y))

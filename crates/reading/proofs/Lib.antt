@@ -8,6 +8,7 @@ pub mod Matchers
 pub mod Invariant
 pub mod Simulation
 pub mod Unbounded
+pub mod Rounds
 pub mod AnswerLaws
 pub mod Agree
 pub mod Loop

@@ -1,30 +1,25 @@
 -- A repeat's rounds are those of a loop without a bound: each round that is Ok comes nearer to the end of the text, so the fuel is
 -- never used up. One law for any rounds over any state, for pest's repeat and for the reading's.
-use mathlib.Core.Path.{_≡_, refl, sym, ap, _∙_, subst}
+use mathlib.Core.Path.{_≡_, refl, ap, subst}
 use mathlib.Core.Bool.{Bool, true, false}
 use mathlib.Core.List.{List}
-use Prim.Native.Nat.{ℕ, zero, suc, _-_, _≤_, _<_}
+use Prim.Native.Nat.{ℕ, zero, suc, _-_, _<_}
 use native.Mathlib.Omega.{arith}
 use lib.ListN.{length}
 use Rattle.reading.specs.declared.parser_state.Cause.{Cause}
-use Rattle.reading.specs.Ending.{if_then_else_, Ending, Ok, Err, Stop}
+use Rattle.reading.specs.Ending.{if_then_else_, Ending, Ok, Err, Stop, Loops, loops-ok, loops-err, loops-stop}
 use Rattle.reading.specs.Grammar.{Exp}
 use Rattle.reading.specs.Reading as Reading
-use Rattle.reading.specs.Reading.{Setting, State}
+use Rattle.reading.specs.Reading.{Setting, State, most-rounds}
 use Rattle.reading.specs.Pest as Pest
 use Rattle.reading.specs.Pest.{ParserState}
 use Rattle.reading.proofs.Trees.{Literals, still, Steady}
 use Rattle.reading.proofs.StackLaws.{Stk}
 use Rattle.reading.proofs.QueueLaws.{Open}
 use Rattle.reading.specs.Fit.{Fit}
-use Rattle.reading.proofs.Invariant.{Keeps, keeps-ok, keeps-err, keeps-stop, KeepsFrom, Keeping, Tested, eval-keeps}
+use Rattle.reading.proofs.Invariant.{keeps-ok, KeepsFrom, Keeping, Tested, eval-keeps}
+use Rattle.reading.proofs.Rounds.{Free, Alike, alike-ok, alike-err, alike-stop, AlikeFrom, eval-alike}
 use Rattle.reading.proofs.Simulation.{Sim, sim-ok, sim-err, sim-stop, Preserves, Good, pest-of, eval-sim}
-
--- A loop with no bound: "Repeat runs until Err and answers Ok; .. pass on an Err that comes with a limit cause".
-pub data Loops {S : Type 0} (limited : S → Bool) (body : S → Ending S) : S → Ending S → Type 0 where
-  loops-ok : (s t : S) (r : Ending S) → body s ≡ Ok t → Loops limited body t r → Loops limited body s r
-  loops-err : (s t : S) → body s ≡ Err t → Loops limited body s (if limited t then Err t else Ok t)
-  loops-stop : (s : S) (c : Cause) → body s ≡ Stop c → Loops limited body s (Stop c)
 
 module _ {S : Type 0} (limited : S → Bool) (body : S → Ending S) (rounds : ℕ → S → Ending S) (again : Ending S → (S → Ending S) → Ending S)
     (unrolled : (n : ℕ) (s : S) → rounds (suc n) s ≡ again (body s) (λ t. rounds n t))
@@ -46,23 +41,6 @@ module _ {S : Type 0} (limited : S → Bool) (body : S → Ending S) (rounds : �
 module _ (g : Setting) where
   abbrev left-of : ℕ → ℕ
   left-of p = length (g .text) - p
-
-  -- pest's repeat, over a body that moves on Ok.
-  pub pest-loop : (f : ParserState → Ending ParserState) → Keeping g false f → (n : ℕ) (m : ParserState) → Fit g m → length (g .text) - m .position < n
-      → Loops Pest.limit-reached f m (Pest.repeat n f m)
-  pest-loop f k = rounds-loop Pest.limit-reached f (λ n m. Pest.repeat n f m) (λ r again. Pest.round-end r again)
-      (λ n m. refl) (λ m again. refl) (λ m again. refl) (λ c again. refl)
-      (Fit g) (λ m. left-of (m .position)) nearer
-    where
-      nearer : (m n : ParserState) → Fit g m → f m ≡ Ok n → Fit g n × (left-of (n .position) < left-of (m .position))
-      nearer m n x e = go (f m) e (k m x)
-        where
-          go : (r : Ending ParserState) → r ≡ Ok n → KeepsFrom g false m r → Fit g n × (left-of (n .position) < left-of (m .position))
-          go r q (keeps-ok t w i) =
-              let z : t ≡ n = cc in
-              (subst (Fit g) z (w .fit), omega (arith, i refl, w .fit .edge .inside, ap (λ (y : ParserState). y .position) z))
-          go r q (keeps-err t w) = let z : _≡_ {A = ℕ} 0 1 = cc in absurd (omega arith)
-          go r q (keeps-stop c) = let z : _≡_ {A = ℕ} 0 1 = cc in absurd (omega arith)
 
   -- A state of the reading that stands for a fit state of pest.
   pub record Stands (s : State) : Type 0 where
@@ -91,7 +69,31 @@ module _ (g : Setting) where
 
 -- A repeat whose body may not stand still, at every depth, from every state of a run: its rounds are a loop's.
 pub repeat-is-loop : (g : Setting) (set : ℕ → Bool) (w : Tested g set) (depth : ℕ) (e : Exp) → Literals e → Steady set e → still set e ≡ false → (s : State) → Stands g s
-    → Loops Reading.limited (Reading.eval g depth e) s (Reading.rounds (suc (length (g .text) - s .position)) (Reading.eval g depth e) s)
+    → Loops Reading.limited (Reading.eval g depth e) s (Reading.rounds (most-rounds g (s .position)) (Reading.eval g depth e) s)
 repeat-is-loop g set w depth e u y b s x =
     reading-loop g (Reading.eval g depth e) (Pest.eval g true depth e) (eval-sim g set w depth e u y) (subst (λ (c : Bool). Keeping g c (Pest.eval g true depth e)) b (eval-keeps g set w depth e u y))
-    (suc (length (g .text) - s .position)) s x (omega arith)
+    (most-rounds g (s .position)) s x (omega arith)
+
+-- The same of pest's own, which nothing bounds, whatever it answers to rounds that are used up.
+pub pest-repeat-is-loop : (g : Setting) (set : ℕ → Bool) (w : Tested g set) (spent : ParserState → Ending ParserState) (depth : ℕ) (e : Exp) → Literals e → Steady set e → still set e ≡ false → (m : ParserState) → Free g m
+    → Loops Pest.limit-reached (Pest.eval-with g false spent depth e) m (Pest.loop spent (most-rounds g (m .position)) (Pest.eval-with g false spent depth e) m)
+pest-repeat-is-loop g set w spent depth e u y b m x =
+    rounds-loop Pest.limit-reached body (λ n t. Pest.loop spent n body t) (λ r again. Pest.round-end r again)
+    (λ n t. refl) (λ t again. refl) (λ t again. refl) (λ c again. refl)
+    (Free g) (λ t. left-of g (t .position)) nearer (most-rounds g (m .position)) m x (omega arith)
+  where
+    body : ParserState → Ending ParserState
+    body = Pest.eval-with g false spent depth e
+
+    moves : AlikeFrom g false body body
+    moves = subst (λ (c : Bool). AlikeFrom g c body body) b (eval-alike g set w spent spent depth e u y)
+
+    nearer : (s t : ParserState) → Free g s → body s ≡ Ok t → Free g t × (left-of g (t .position) < left-of g (s .position))
+    nearer s t z q = go (body s) (body s) q (moves s z)
+      where
+        go : (r r′ : Ending ParserState) → r ≡ Ok t → Alike g false (s .position) r r′ → Free g t × (left-of g (t .position) < left-of g (s .position))
+        go r r′ q (alike-ok n v) =
+            let j : n ≡ t = cc in
+            (subst (Free g) j (v .free), omega (arith, v .moved refl, v .free .edge .inside, ap (λ (k : ParserState). k .position) j))
+        go r r′ q (alike-err n v) = let j : _≡_ {A = ℕ} 0 1 = cc in absurd (omega arith)
+        go r r′ q (alike-stop c) = let j : _≡_ {A = ℕ} 0 1 = cc in absurd (omega arith)

@@ -1,23 +1,23 @@
 -- pest's own matchers (position.rs) answer what document 01's do, at a character edge of valid text: `slice.get(0..len)` asks for an
 -- edge, which stands there where the bytes match.
 use mathlib.Core.Path.{_≡_, refl, sym, ap, _∙_, subst}
-use mathlib.Core.Bool.{Bool, true, false, _&&_, _||_, not, cond}
+use mathlib.Core.Bool.{Bool, true, false, _&&_, cond}
 use mathlib.Core.List.{List, [], _∷_}
 use mathlib.Core.Option.{Option, none, some}
-use mathlib.Core.Logic.{_≢_}
 use Prim.Native.Nat.{ℕ, zero, suc, _+_, _-_, _≤_, _<_}
 use native.Mathlib.Omega.{arith}
 use native.Mathlib.Nat.{add-zero}
 use lib.IntN.{ℤ, pos, negsuc}
-use lib.ListN.{length, take, drop, getD, length-drop}
-use lib.Seq.{drop-drop, getD-drop}
+use lib.ListN.{length, take, drop, length-drop}
+use lib.Seq.{drop-drop}
 use lib.Dec.{eqb, ltb, leb}
-use borrow.Author.Tests.{leb-true, leb-false, le-leb, lt-leb, eqb-false, lt-ltb, le-ltb}
-use Rattle.matching.specs.Utf8.{Utf8, Character, decode, within, tail}
+use borrow.Author.Tests.{leb-true, leb-false, le-leb, lt-leb, lt-ltb, le-ltb}
+use Rattle.matching.specs.Utf8.{Utf8, Character, decode}
 use Rattle.matching.specs.Position as Position
 use Rattle.matching.specs.Position.{starts-by, same-folded, match-by, match-char-by, past}
 use Rattle.matching.proofs.Forward.{starts-length, Found, found, not-found, char-forward}
-use Rattle.matching.proofs.Edges.{edge-after, edge-byte, folded-keeps}
+use Rattle.matching.proofs.Edges.{edge-after, folded-keeps}
+use Rattle.matching.proofs.Boundary.{edge-boundary}
 use Rattle.reading.specs.Ending.{if_then_else_, Span}
 use Rattle.reading.specs.Reading as Reading
 use Rattle.reading.specs.Pest as Pest
@@ -56,30 +56,23 @@ module _ (text : List ℕ) where
       x : List ℕ
       x = drop p text
 
-      none-of : (a b : Bool) → (if a && b && false then some (p + length l) else none) ≡ none
-      none-of true true = refl
-      none-of true false = refl
-      none-of false b = refl
+      none-of : (a : Bool) → (if a && false then some (p + length l) else none) ≡ none
+      none-of true = refl
+      none-of false = refl
 
-      edge : starts-by same-folded l x ≡ true → Pest.is-char-boundary (length l) x ≡ true
-      edge f = at (eqb (length l) 0) (eqb (length l) (length x)) refl
-        where
-          at : (a b : Bool) → eqb (length l) (length x) ≡ b → (a || (b || not (within (tail .low) (tail .high) (getD x (length l) 0)))) ≡ true
-          at true b e = refl
-          at false true e = refl
-          at false false e =
-              let ne : length l ≢ length x = eqb-false (length l) (length x) e in
-              let n : 0 < length (drop (length l) x) = omega (arith, starts-length same-folded l x f, length-drop (length l) x) in
-              ap not (ap (within (tail .low) (tail .high)) (sym (getD-drop (length l) x 0 0 ∙ ap (λ (m : ℕ). getD x m 0) (add-zero (length l)))) ∙ edge-byte (drop (length l) x) (edge-after same-folded folded-keeps l u x v f) n)
+      part : starts-by same-folded l x ≡ true → Pest.has-part x (length l) ≡ true
+      part f =
+          let n : length l ≤ length x = starts-length same-folded l x f in
+          rw (le-leb (length l) (length x) n) (edge-boundary x (length l) (record { inside = n; whole = edge-after same-folded folded-keeps l u x v f }))
 
       go : (b : Bool) → starts-by same-folded l x ≡ b → Position.match-insensitive text l p ≡ Pest.match-insensitive text l p
       go true f =
           let n : length l ≤ length x = starts-length same-folded l x f in
-          rw (le-leb p (length text) k, f, le-leb (length l) (length x) n, edge f, same-starts same-folded l x n, f)
+          rw (le-leb p (length text) k, f, part f, same-starts same-folded l x n, f)
       go false f = rw (le-leb p (length text) k, f) (sym (fails (leb (length l) (length x)) refl))
         where
           fails : (c : Bool) → leb (length l) (length x) ≡ c → Pest.match-insensitive text l p ≡ none
-          fails true e = rw (same-starts same-folded l x (leb-true (length l) (length x) e), f) (none-of (leb (length l) (length x)) (Pest.is-char-boundary (length l) x))
+          fails true e = rw (same-starts same-folded l x (leb-true (length l) (length x) e), f) (none-of (Pest.has-part x (length l)))
           fails false e = rw e
 
   pub range-same : (a b p : ℕ) → Position.match-range text a b p ≡ Pest.match-range text a b p

@@ -27,7 +27,7 @@ use Rattle.reading.specs.Ending.{if_then_else_, Ending, Ok, Err, Stop, o
 use Rattle.reading.specs.Grammar as Grammar
 use Rattle.reading.specs.Grammar.{Exp, RuleLine}
 use Rattle.reading.specs.Reading as Reading
-use Rattle.reading.specs.Reading.{Setting, State, initial, most-attempts, is-set}
+use Rattle.reading.specs.Reading.{Setting, State, initial, most-attempts, most-rounds, is-set}
 use Rattle.reading.specs.Forest.{tokens}
 use Rattle.reading.specs.Outcome.{Answer, answer, of-limit, of-tokens, of-failure, ascending}
 use Rattle.reading.specs.Pest as Pest
@@ -310,8 +310,8 @@ module _ (g : Setting) where
       go r (means-err t j) z ih = forgiven-means t (λ c. (j c .0, rw (j c .2 refl) (Ford.f-done e (from (m .position)) (j c .1))))
       go r (means-stop c) z ih = means-stop c
 
-  repeat-means : (e : Peg) (f : ParserState → Ending ParserState) → Recognises e true f → Keeping g false f → Recognises (Ford.star e) true (λ m. Pest.repeat (suc (length (g .text) - m .position)) f m)
-  repeat-means e f h k m y = rounds-means e f h k (suc (length (g .text) - m .position)) m y (omega arith)
+  repeat-means : (e : Peg) (f : ParserState → Ending ParserState) → Recognises e true f → Keeping g false f → Recognises (Ford.star e) true (λ m. Pest.repeat (most-rounds g (m .position)) f m)
+  repeat-means e f h k m y = rounds-means e f h k (most-rounds g (m .position)) m y (omega arith)
 
   -- ── Kind 12 ──
   abbrev lookahead-of : Bool → Peg → Peg
@@ -501,7 +501,7 @@ module _ (g : Setting) (set : ℕ → Bool) (w : Tested g set) (lines : ℕ → 
         (level-keeps g set w room d k a (u .0) (y .0))
     level-means (Grammar.rule line r e) p c u y = counted (peg e) (λ m. Pest.rule g true line r (d e) m) (rule-means g line r (peg e) (d e) (body e (p .0) c (p .1) u y))
     level-means (Grammar.sequence e) p c u y = counted (peg e) (λ m. Pest.sequence (d e) m) (sequence-means g (peg e) (whole e) (d e) (h e p c u y))
-    level-means (Grammar.repeat e) p c u y = counted (Ford.star (peg e)) (λ m. Pest.repeat (suc (length (g .text) - m .position)) (d e) m)
+    level-means (Grammar.repeat e) p c u y = counted (Ford.star (peg e)) (λ m. Pest.repeat (most-rounds g (m .position)) (d e) m)
         (repeat-means g (peg e) (d e) (body e (p .0) c (p .1) u (y .1)) (subst (λ (b : Bool). Keeping g b (d e)) (y .0) (k e u (y .1))))
     level-means (Grammar.optional e) p c u y = counted (Ford._or_ (peg e) Ford.ε) (λ m. Pest.optional (d e m)) (optional-means g (peg e) (d e) (body e (p .0) c (p .1) u y))
     level-means (Grammar.lookahead true e) p c u y = counted (Ford.not (Ford.not (peg e))) (λ m. Pest.lookahead true (d e) m) (lookahead-means g true (whole e) (peg e) (d e) (h e (p .0) c u y))
@@ -561,6 +561,15 @@ numbered g (Stop (Cause.EmptyStack l)) = other-end 13 (omega arith)
 numbered g (Stop (Cause.TokensFull l)) = other-end 14 (omega arith)
 numbered g (Stop (Cause.StackFull l)) = other-end 15 (omega arith)
 numbered g (Stop (Cause.AttemptsFull l)) = other-end 16 (omega arith)
+
+-- A match that gives 0 has no cause.
+pub no-cause : (s : State) → answer (Ok s) .number ≡ 0 → s .tracker .cause ≡ none
+no-cause s = go (s .tracker .cause)
+  where
+    go : (c : Option LimitKind) → (elim c as (λ x. Answer) [ some k ↦ of-limit k (s .attempts .furthest) | none ↦ of-tokens (tokens (s .siblings)) ]) .number ≡ 0 → c ≡ none
+    go none q = refl
+    go (some LimitKind.Call) q = absurd (omega arith)
+    go (some LimitKind.Stack) q = absurd (omega arith)
 
 module _ (g : Setting) (set : ℕ → Bool) (w : Tested g set) (lines : ℕ → Type 0) (v : PlainRules g lines) (u : Utf8 (g .text))
     (depth limit : ℕ) (e : Exp) (p : Plain e) (c : Calls lines e) (y : Literals e) (z : Steady set e) where

@@ -1,11 +1,11 @@
 -- The laws of a run, from nothing but "the tests 4 to 9 passed": it agrees with pest's `state` (demand 2), its lists keep their bounds,
 -- and a plain grammar's run is what Ford's relation says.
-use mathlib.Core.Path.{_≡_, refl, sym, ap, _∙_}
+use mathlib.Core.Path.{_≡_, refl, sym, ap, _∙_, subst}
 use mathlib.Core.Bool.{Bool, true}
 use mathlib.Core.List.{List, [], _++_}
 use mathlib.Core.Option.{Option, none, some}
 use Prim.Native.Nat.{ℕ, _≤_}
-use lib.ListN.{length}
+use lib.ListN.{length, take, drop}
 use Rattle.matching.specs.Utf8.{Utf8, Edge}
 use Rattle.reading.specs.declared.parser_state.Cause.{Cause}
 use Rattle.reading.specs.declared.parser_state.Lookahead.{Lookahead}
@@ -27,8 +27,10 @@ use Rattle.reading.proofs.Trees.{Literals, Steady}
 use Rattle.reading.proofs.QueueLaws.{top}
 use Rattle.reading.proofs.Invariant.{Tested, Keeps, keeps-ok, keeps-err, keeps-stop, KeepsFrom, eval-keeps}
 use Rattle.reading.proofs.Simulation.{Sim, sim-ok, sim-err, sim-stop, pest-of, held-is}
+use Rattle.reading.proofs.Rounds.{ending-alike}
 use Rattle.reading.proofs.Agree.{initial-fit, initial-is, run-sim, alike, agree-at, Runs}
-use Rattle.reading.proofs.Recognition.{PlainRules, Recognised, ford-at, ford-parsed, ford-failed}
+use Rattle.reading.proofs.CharacterLaws.{characters-split}
+use Rattle.reading.proofs.Recognition.{PlainRules, Recognised, matched, no-cause, ford-at, ford-parsed, ford-failed}
 use Rattle.reading.proofs.Accepted.{Accepted, RuleLine, Started, started, rule-still, rule-still-is, tree-literals, body-literals, tree-calls, body-calls, tree-steady, body-steady, body-closed, tree-plain, body-plain, body-whole}
 
 pub tested : (i : Input) → Accepted (i .nodes) (i .literals) → Tested (setting i) (rule-still (i .nodes))
@@ -60,11 +62,15 @@ module _ (i : Input) (e : refusal i ≡ none) where
 
   -- ── Demand 2: `state` ──
   -- A run that stops for no added reason answers what pest's `state` gives: number, tokens, furthest, sorted rules.
-  pub agree : Runs (reading i) → answer (reading i) ≡ answer-to (Pest.state (setting i) (i .depth-limit) (i .call-limit) at-root)
+  pub agree : Runs (reading i) → (spent : ParserState → Ending ParserState) → answer (reading i) ≡ answer-to (Pest.state spent (setting i) (i .depth-limit) (i .call-limit) at-root)
   unfolding reading
-  agree h = agree-at (setting i) (rule-still (i .nodes)) (tested i g) (s .text-whole) (i .depth-limit) (i .call-limit) at-root root-literals root-steady h
+  agree h spent = agree-at (setting i) (rule-still (i .nodes)) (tested i g) (s .text-whole) (i .depth-limit) (i .call-limit) at-root root-literals root-steady h spent
 
-  -- The same of every run, stops included, with pest that has document 01's bounds.
+  -- No loop of pest's uses up its rounds, stops included: whatever stands for that, a run's ending is the same.
+  pub loops-alike : (spent other : ParserState → Ending ParserState) → Pest.ending spent (setting i) (i .depth-limit) (i .call-limit) at-root ≡ Pest.ending other (setting i) (i .depth-limit) (i .call-limit) at-root
+  loops-alike spent other = ending-alike (setting i) (rule-still (i .nodes)) (tested i g) spent other (s .text-whole) (i .depth-limit) (i .call-limit) at-root root-literals root-steady
+
+  -- Every run, stops included, and pest that has document 01's bounds.
   pub run-alike : answer (reading i) ≡ pest-answer (Pest.eval (setting i) true (i .depth-limit) at-root (Pest.new (i .call-limit)))
   unfolding reading
   run-alike = alike (setting i) (rule-still (i .nodes)) (tested i g) (s .text-whole) (i .depth-limit) (i .call-limit) at-root root-literals root-steady
@@ -97,6 +103,13 @@ module _ (i : Input) (e : refusal i ≡ none) where
       go r m (sim-stop c) w = bounded-stop c
 
   -- ── Demand 2: Ford ──
+  -- Where a run ended Ok, the text's characters are those before its position and those after it.
+  pub split-text : (t : State) → reading i ≡ Ok t → characters-of (i .text) ≡ characters-of (take (t .position) (i .text)) ++ characters-of (drop (t .position) (i .text))
+  split-text t q = go (subst (Within i) q run-bounded)
+    where
+      go : Within i (Ok t) → characters-of (i .text) ≡ characters-of (take (t .position) (i .text)) ++ characters-of (drop (t .position) (i .text))
+      go (bounded-ok u b) = characters-split (t .position) (i .text) (s .text-whole) (b .edge)
+
   module _ (p : plain (i .nodes) ≡ none) where
     rules : PlainRules (setting i) (RuleLine (i .nodes))
     rules = record {
@@ -122,3 +135,8 @@ module _ (i : Input) (e : refusal i ≡ none) where
     unfolding reading
     ford-10 q = ford-failed (setting i) (rule-still (i .nodes)) (tested i g) (RuleLine (i .nodes)) rules (s .text-whole) (i .depth-limit) (i .call-limit) at-root
         (tree-plain (i .nodes) (i .literals) g p (line-count (i .nodes))) (tree-calls (i .nodes) (i .literals) g (line-count (i .nodes))) root-literals root-steady q
+
+    -- What Ford's relation leaves is the text from the position on at which the reading ended.
+    pub left-over : answer (reading i) .number ≡ 0 → (t : State) → reading i ≡ Ok t → Ford (rules-of (setting i)) (peg at-root) (characters-of (i .text)) (some (characters-of (drop (t .position) (i .text))))
+    left-over q t r = ford (some (characters-of (drop (t .position) (i .text))))
+        (subst (λ (x : Ending State). Recognised (setting i) x (some (characters-of (drop (t .position) (i .text))))) (sym r) (matched t (no-cause t (ap (λ (x : Ending State). answer x .number) (sym r) ∙ q))))

@@ -22,7 +22,7 @@ use Rattle.reading.specs.Grammar as Grammar
 use Rattle.reading.specs.Grammar.{Exp, RuleLine}
 use Rattle.reading.specs.Forest.{Forest, empty, add, count, size, cut, tag-last}
 use Rattle.reading.specs.Reading as Reading
-use Rattle.reading.specs.Reading.{Setting, State, Tracker, Attempts, Note, most-entries, most-debt, debt}
+use Rattle.reading.specs.Reading.{Setting, State, Tracker, Attempts, Note, most-entries, most-debt, most-rounds, debt}
 use Rattle.reading.specs.Pest as Pest
 use Rattle.reading.specs.Pest.{ParserState, QueueableToken, CallLimit, CallLimitTracker, Entered}
 use Rattle.reading.proofs.Trees.{Literals, still, Steady}
@@ -607,8 +607,8 @@ module _ (g : Setting) (set : ℕ → Bool) (w : Tested g set) where
     level-sim (Grammar.or-else a b) u y = or-sim g (Reading.level g room d a) (Reading.level g room d b) (Pest.level g true room md a) (Pest.level g true room md b) (level-sim a (u .0) (y .0)) (level-sim b (u .1) (y .1)) (level-keeps g set w room md k a (u .0) (y .0))
     level-sim (Grammar.rule line r e) u y = counted _ (λ x. Pest.rule g true line r (md e) x) (rule-sim g line r (d e) (md e) (h e u y))
     level-sim (Grammar.sequence e) u y = counted _ (λ x. Pest.sequence (md e) x) (sequence-sim g (d e) (md e) (h e u y))
-    level-sim (Grammar.repeat e) u y = counted (λ s. Reading.rounds (suc (length (g .text) - s .position)) (d e) s) (λ x. Pest.repeat (suc (length (g .text) - x .position)) (md e) x)
-        (λ o ss p s i v. rounds-sim g (suc (length (g .text) - s .position)) (d e) (md e) (h e u (y .1)) (k e u (y .1)) o ss p s i v)
+    level-sim (Grammar.repeat e) u y = counted (λ s. Reading.rounds (most-rounds g (s .position)) (d e) s) (λ x. Pest.repeat (most-rounds g (x .position)) (md e) x)
+        (λ o ss p s i v. rounds-sim g (most-rounds g (s .position)) (d e) (md e) (h e u (y .1)) (k e u (y .1)) o ss p s i v)
     level-sim (Grammar.optional e) u y = counted _ (λ x. Pest.optional (md e x)) (optional-sim g (d e) (md e) (h e u y))
     level-sim (Grammar.lookahead b e) u y = counted _ (λ x. Pest.lookahead b (md e) x) (lookahead-sim g b (d e) (md e) (h e u y))
     level-sim (Grammar.atomic a e) u y = counted _ (λ x. Pest.atomic a (md e) x) (atomic-sim g a (d e) (md e) (h e u y))

@@ -4,7 +4,7 @@ use mathlib.Core.Path.{_≡_, refl}
 use mathlib.Core.Bool.{Bool, true, false, _&&_, _||_, not}
 use mathlib.Core.List.{List, [], _∷_, _++_}
 use mathlib.Core.Option.{Option, none, some}
-use Prim.Native.Nat.{ℕ, zero, suc, _-_}
+use Prim.Native.Nat.{ℕ, zero, suc}
 use lib.ListN.{length, take, set, getD}
 use lib.Dec.{eqb, ltb, leb}
 use Rattle.reading.specs.declared.parser_state.Atomicity.{Atomicity}
@@ -12,7 +12,7 @@ use Rattle.reading.specs.declared.parser_state.Cause.{Cause}
 use Rattle.reading.specs.Ending.{if_then_else_, Ending, Ok, Err, Stop, on-ok, on-err, stop-if, Span, is-negative, is-atomic}
 use Rattle.reading.specs.Grammar as Grammar
 use Rattle.reading.specs.Grammar.{Exp, RuleLine}
-use Rattle.reading.specs.Reading.{Setting, most-entries, most-debt, most-attempts, debt}
+use Rattle.reading.specs.Reading.{Setting, most-entries, most-debt, most-attempts, most-rounds, debt}
 use Rattle.reading.specs.Pest as Pest
 use Rattle.reading.specs.Pest.{ParserState, QueueableToken, Entered}
 
@@ -167,7 +167,7 @@ module _ (g : Setting) where
     level-frees (Grammar.or-else a b) m = then-err _ _ (level-frees b) _ _ (level-frees a m)
     level-frees (Grammar.rule line r x) m = counted _ _ (rule-frees line r (d x) (e x) (k x)) m
     level-frees (Grammar.sequence x) m = counted _ _ (λ n. after (Pest.sequence-end (length (n .queue)) (n .position)) (record { stops = λ c. refl }) _ _ (k x (Pest.checkpoint n))) m
-    level-frees (Grammar.repeat x) m = counted _ _ (λ n. repeat-frees (suc (length (g .text) - n .position)) (d x) (e x) (k x) n) m
+    level-frees (Grammar.repeat x) m = counted _ _ (λ n. repeat-frees (most-rounds g (n .position)) (d x) (e x) (k x) n) m
     level-frees (Grammar.optional x) m = counted _ _ (λ n. after Pest.optional (record { stops = λ c. refl }) _ _ (k x n)) m
     level-frees (Grammar.lookahead b x) m = counted _ _ (λ n. after (Pest.lookahead-end b (n .lookahead) (n .position)) (record { stops = λ c. refl }) _ _ (k x (Pest.checkpoint (Pest.set-lookahead (Pest.lookahead-in b (n .lookahead)) n)))) m
     level-frees (Grammar.atomic a x) m = counted _ _ (λ n. after (Pest.atomic-end (not (Pest.same-atomicity (n .atomicity) a)) (n .atomicity)) (record { stops = λ c. refl }) _ _ (k x (Pest.toggle (not (Pest.same-atomicity (n .atomicity) a)) a n))) m

@@ -1,14 +1,16 @@
--- The cases M1 to M10 of document 01, "Plans on the test desk", of the reading, in one table.
+-- The cases M1 to M10 of document 01, "Plans on the test desk", of the reading, in one table: each run is started, and answers.
 use mathlib.Core.Path.{_≡_, refl}
 use mathlib.Core.List.{List, [], _∷_, map}
+use mathlib.Core.Option.{Option, none}
 use Prim.Native.Nat.{ℕ}
 use lib.ListN.{replicate}
 use lib.IntN.{ℤ, pos, negsuc}
-use Rattle.matching.specs.Utf8.{decode}
+use Rattle.matching.specs.Utf8.{decode, characters}
 use Rattle.matching.specs.Position.{match-by, match-char-by}
-use Rattle.reading.specs.Grammar.{Node, node-at, tree-of, trees}
+use Rattle.reading.specs.Grammar.{Node, node-at, fields-fit, tree-of, trees}
+use Rattle.reading.specs.Nullable.{stands-still, raised, swept, rounds}
 use Rattle.reading.specs.Forest.{start-token, end-token}
-use Rattle.reading.specs.Outcome.{Input, reading, Answer, answer, of-tokens, of-failure, stopped}
+use Rattle.reading.specs.Outcome.{Input, Refusal, refusal, reading, Answer, answer, of-tokens, of-failure, stopped}
 
 abbrev signed : (kind : ℕ) → (a b c : ℤ) → Node
 signed k a b c = record { kind = pos k; a = a; b = b; c = c }
@@ -31,9 +33,9 @@ record Case : Type 0 where
 abbrev case : List Node → (text : List ℕ) → (depth calls : ℕ) → Answer → Case
 case ns t d l a = record { nodes = ns; text = t; depth = d; calls = l; expected = a }
 
--- The answer of the reading, with room for two tokens.
-abbrev given : Case → Answer
-given c = answer (reading (record {
+-- What the run of a case is handed: room for two tokens, and the other areas as short as they may be.
+abbrev handed : Case → Input
+handed c = record {
   nodes = numbers (c .nodes);
   literals = 97 ∷ 98 ∷ 99 ∷ [];
   text = c .text;
@@ -42,7 +44,19 @@ given c = answer (reading (record {
   tokens = replicate 10 0;
   report = replicate 515 0;
   scratch = 4864;
-}))
+}
+
+-- Which of the tests 4 to 9 refuses a case's run, if one does, and the answer of the reading.
+record Given : Type 0 where
+  refused : Option Refusal
+  answered : Answer
+
+abbrev given : Case → Given
+given c = record { refused = refusal (handed c); answered = answer (reading (handed c)) }
+
+-- None does, and the answer is document 01's.
+abbrev wanted : Case → Given
+wanted c = record { refused = none; answered = c .expected }
 
 abbrev M1 : List Node
 M1 = node 1 0 1 0 ∷ node 8 7 1 0 ∷ node 19 3 0 0 ∷ node 6 2 3 0 ∷ []
@@ -115,6 +129,6 @@ table =
     ∷ case M10 «a» 1024 0 (stopped 13 1)
     ∷ []
 
-cases-hold : map given table ≡ map (λ (c : Case). c .expected) table
-unfolding decode match-by match-char-by node-at tree-of trees reading
+cases-hold : map given table ≡ map wanted table
+unfolding decode characters match-by match-char-by node-at fields-fit tree-of trees stands-still raised swept rounds refusal reading
 cases-hold = refl

@@ -1,4 +1,5 @@
 -- How an evaluation ends, and the small words that the reading and pest's own state share.
+use mathlib.Core.Path.{_≡_}
 use mathlib.Core.Bool.{Bool, true, false}
 use Prim.Native.Nat.{ℕ}
 use Rattle.reading.specs.declared.parser_state.Lookahead.{Lookahead}
@@ -34,6 +35,12 @@ module _ {S : Type 0} where
   -- A stop, where there is no room for what comes next.
   abbrev pub stop-if : Bool → Cause → (Unit {0} → Ending S) → Ending S
   stop-if full c k = elim full [ true ↦ Stop c | false ↦ k tt ]
+
+-- A loop with no bound: "Repeat runs until Err and answers Ok; .. pass on an Err that comes with a limit cause".
+pub data Loops {S : Type 0} (limited : S → Bool) (body : S → Ending S) : S → Ending S → Type 0 where
+  loops-ok : (s t : S) (r : Ending S) → body s ≡ Ok t → Loops limited body t r → Loops limited body s r
+  loops-err : (s t : S) → body s ≡ Err t → Loops limited body s (if limited t then Err t else Ok t)
+  loops-stop : (s : S) (c : Cause) → body s ≡ Stop c → Loops limited body s (Stop c)
 
 -- "Entries are text spans": from `start` to before `end`.
 pub record Span : Type 0 where

@@ -1,7 +1,13 @@
--- pest 2.9.5's own state and methods, carried over from parser_state.rs, stack.rs, queueable_token.rs and position.rs under pest's
--- names. A Vec is a list: the queue and the attempts in the order of their indexes, the stack's three Vecs with the last first.
+-- pest 2.9.5's own state and methods, carried over from parser_state.rs, stack.rs, queueable_token.rs, position.rs and span.rs under
+-- pest's names. A Vec is a list: the queue and the attempts in the order of their indexes, the stack's three Vecs with the last first.
 -- A Vec that has no room for one more stops where `bounded` is true: document 01's stops 14 to 16. With `bounded` false nothing
--- but a failed `expect` stops, and this is pest.
+-- but a failed `expect` stops, and this is pest. Left out is `parse_attempts`, which only error detail reads, and that is off.
+--
+-- The reading and pest's side share these definitions, so no law between the two can see a mistake in them, only rust/'s comparison
+-- with pest can. Of matching: `decode` and `within` (a character, and whether it is in a range), `past` (the step over one),
+-- `same-folded`, `bytes-of`. Of Grammar: which tree a line stands for, and `rule-at`. Of Ending: `on-ok` and `on-err` (kinds 6 and 7),
+-- `is-none`, `is-negative`, `is-atomic`. Of Reading: `is-set`. Shared too, but no part of pest: the stops (`stop-if`, `debt`, the bounds)
+-- and the number of rounds that a loop is given (`most-rounds`; see `loop`).
 use mathlib.Core.Bool.{Bool, true, false, _&&_, _||_, not}
 use mathlib.Core.List.{List, [], _∷_, _++_, reverse}
 use mathlib.Core.Option.{Option, none, some}
@@ -10,8 +16,8 @@ use lib.IntN.{ℤ, pos, negsuc, _+ℤ_}
 use lib.Signed.{ltZ, nonNeg}
 use lib.ListN.{length, getD, take, drop, set}
 use lib.Dec.{eqb, ltb, leb}
-use Rattle.matching.specs.Utf8.{decode, within, tail}
-use Rattle.matching.specs.Position.{past, same-folded, bytes-of}
+use Rattle.matching.specs.Utf8.{decode, within}
+use Rattle.matching.specs.Position.{past, same-folded, is-char-boundary, bytes-of}
 use Rattle.reading.specs.declared.parser_state.Lookahead.{Lookahead}
 use Rattle.reading.specs.declared.parser_state.Lookahead.the-variants.{Positive, Negative, None}
 use Rattle.reading.specs.declared.parser_state.Atomicity.{Atomicity}
@@ -22,7 +28,7 @@ use Rattle.reading.specs.declared.call_limit_tracker.LimitKind.the-varia
 use Rattle.reading.specs.Ending.{if_then_else_, Ending, Ok, Err, Stop, on-ok, on-err, stop-if, Span, Checkpoint, is-negative, is-none, is-atomic}
 use Rattle.reading.specs.Grammar as Grammar
 use Rattle.reading.specs.Grammar.{Exp, RuleLine}
-use Rattle.reading.specs.Reading.{Setting, most-entries, most-debt, most-attempts, debt, is-set}
+use Rattle.reading.specs.Reading.{Setting, most-entries, most-debt, most-attempts, most-rounds, debt, is-set}
 
 -- ── iterators/queueable_token.rs; tag 0 is `None` ──
 pub data QueueableToken : Type 0 where
@@ -289,10 +295,18 @@ round-end (Ok m) again = again m
 round-end (Err m) again = if limit-reached m then Err m else Ok m
 round-end (Stop c) again = Stop c
 
--- `loop`, bounded as the reading's rounds
+-- `loop`. A definition has to end, so the rounds are numbered, and `spent` is what a loop answers whose rounds are used up. In an
+-- accepted grammar they never are: a run's `ending` is the same for every `spent`, also if that is a stop like no other (`Demand2`, by the
+-- law `ending-alike` of proofs/Rounds); and the rounds are those of a loop with no bound, `Loops` of Ending (the law
+-- `pest-repeat-is-loop` of proofs/Loop).
+abbrev pub loop : (spent : ParserState → Ending ParserState) → (fuel : ℕ) → (ParserState → Ending ParserState)
+    → ParserState → Ending ParserState
+loop spent zero f m = spent m
+loop spent (suc n) f m = round-end (f m) (λ t. loop spent n f t)
+
+-- The loop that the code's is proved equal to.
 abbrev pub repeat : (fuel : ℕ) → (ParserState → Ending ParserState) → ParserState → Ending ParserState
-repeat zero f m = Err m
-repeat (suc n) f m = round-end (f m) (λ t. repeat n f t)
+repeat n f m = loop (λ t. Err t) n f m
 
 abbrev pub optional : Ending ParserState → Ending ParserState
 optional (Ok m) = Ok m
@@ -360,9 +374,9 @@ same-bytes same [] (y ∷ ys) = false
 same-bytes same (x ∷ xs) [] = false
 same-bytes same (x ∷ xs) (y ∷ ys) = same x y && same-bytes same xs ys
 
--- `str::is_char_boundary`, which `slice.get(0..len)` asks
-abbrev pub is-char-boundary : ℕ → List ℕ → Bool
-is-char-boundary n x = eqb n 0 || (eqb n (length x) || not (within (tail .low) (tail .high) (getD x n 0)))
+-- `slice.get(0..len)` of a `str` gives a part that ends at a character boundary, or none
+abbrev pub has-part : (slice : List ℕ) → (len : ℕ) → Bool
+has-part slice len = leb len (length slice) && is-char-boundary slice len
 
 -- `for _ in 0..n` over `chars()`: the bytes skipped
 abbrev pub skipped : ℕ → List ℕ → (len : ℕ) → Option ℕ
@@ -382,7 +396,7 @@ module _ (input : List ℕ) where
   abbrev pub match-insensitive : List ℕ → ℕ → Option ℕ
   match-insensitive string p =
       let slice : List ℕ = drop p input in
-      if leb (length string) (length slice) && is-char-boundary (length string) slice && same-bytes same-folded string (take (length string) slice) then some (p + length string) else none
+      if has-part slice (length string) && same-bytes same-folded string (take (length string) slice) then some (p + length string) else none
 
   abbrev pub match-range : (start end : ℕ) → ℕ → Option ℕ
   match-range start end p = past (within start end) p (decode (drop p input))
@@ -479,35 +493,43 @@ module _ (g : Setting) (bounded : Bool) where
     abbrev pub at-rule : RuleLine → ParserState → Ending ParserState
     at-rule r m = inc-call-check-limit m (λ n. rule g bounded (r .line) (r .rule) (deeper (r .body)) n)
 
+    module _ (spent : ParserState → Ending ParserState) where
+      abbrev pub level-with : Exp → ParserState → Ending ParserState
+      level-with (Grammar.match-string l) m = moved (match-string (g .text) l (m .position)) m
+      level-with (Grammar.match-insensitive l) m = moved (match-insensitive (g .text) l (m .position)) m
+      level-with (Grammar.match-range a b) m = moved (match-range (g .text) a b (m .position)) m
+      level-with (Grammar.skip n) m = moved (skip (g .text) n (m .position)) m
+      level-with Grammar.end-of-input m = if at-end (g .text) (m .position) then Ok m else Err m
+      level-with (Grammar.and-then a b) m = on-ok (level-with a m) (λ n. level-with b n)
+      level-with (Grammar.or-else a b) m = on-err (level-with a m) (λ n. level-with b n)
+      level-with (Grammar.rule line r e) m = at-rule (record { line = line; rule = r; body = e }) m
+      level-with (Grammar.sequence e) m = inc-call-check-limit m (λ n. sequence (deeper e) n)
+      level-with (Grammar.repeat e) m = inc-call-check-limit m (λ n. loop spent (most-rounds g (n .position)) (deeper e) n)
+      level-with (Grammar.optional e) m = inc-call-check-limit m (λ n. optional (deeper e n))
+      level-with (Grammar.lookahead b e) m = inc-call-check-limit m (λ n. lookahead b (deeper e) n)
+      level-with (Grammar.atomic a e) m = inc-call-check-limit m (λ n. atomic a (deeper e) n)
+      level-with (Grammar.stack-push line e) m = inc-call-check-limit m (λ n. stack-push (g .text) bounded line (deeper e) n)
+      level-with (Grammar.stack-pop line) m = stack-pop (g .text) bounded line (m .stack .cache) m
+      level-with (Grammar.stack-match-peek-slice i j d) m = stack-match-peek-slice (g .text) i j d m
+      level-with (Grammar.stack-match-pop line) m = stack-match-pop (g .text) bounded line (m .stack .cache) (m .position) m
+      level-with (Grammar.restore-on-err e) m = check-stack-limit m (λ n. restore-on-err (deeper e) n)
+      level-with (Grammar.tag-node u) m = tag-node u m
+      level-with (Grammar.call l) m = at-rule (g .rule-at l) m
+
     abbrev pub level : Exp → ParserState → Ending ParserState
-    level (Grammar.match-string l) m = moved (match-string (g .text) l (m .position)) m
-    level (Grammar.match-insensitive l) m = moved (match-insensitive (g .text) l (m .position)) m
-    level (Grammar.match-range a b) m = moved (match-range (g .text) a b (m .position)) m
-    level (Grammar.skip n) m = moved (skip (g .text) n (m .position)) m
-    level Grammar.end-of-input m = if at-end (g .text) (m .position) then Ok m else Err m
-    level (Grammar.and-then a b) m = on-ok (level a m) (λ n. level b n)
-    level (Grammar.or-else a b) m = on-err (level a m) (λ n. level b n)
-    level (Grammar.rule line r e) m = at-rule (record { line = line; rule = r; body = e }) m
-    level (Grammar.sequence e) m = inc-call-check-limit m (λ n. sequence (deeper e) n)
-    level (Grammar.repeat e) m = inc-call-check-limit m (λ n. repeat (suc (length (g .text) - n .position)) (deeper e) n)
-    level (Grammar.optional e) m = inc-call-check-limit m (λ n. optional (deeper e n))
-    level (Grammar.lookahead b e) m = inc-call-check-limit m (λ n. lookahead b (deeper e) n)
-    level (Grammar.atomic a e) m = inc-call-check-limit m (λ n. atomic a (deeper e) n)
-    level (Grammar.stack-push line e) m = inc-call-check-limit m (λ n. stack-push (g .text) bounded line (deeper e) n)
-    level (Grammar.stack-pop line) m = stack-pop (g .text) bounded line (m .stack .cache) m
-    level (Grammar.stack-match-peek-slice i j d) m = stack-match-peek-slice (g .text) i j d m
-    level (Grammar.stack-match-pop line) m = stack-match-pop (g .text) bounded line (m .stack .cache) (m .position) m
-    level (Grammar.restore-on-err e) m = check-stack-limit m (λ n. restore-on-err (deeper e) n)
-    level (Grammar.tag-node u) m = tag-node u m
-    level (Grammar.call l) m = at-rule (g .rule-at l) m
+    level e m = level-with (λ t. Err t) e m
 
   -- Not reached: where no call may open, every entry is refused.
   abbrev pub no-deeper : Exp → ParserState → Ending ParserState
   no-deeper e m = Err (set-call-tracker (record { current-call-limit = m .call-tracker .current-call-limit; limit-reached = some LimitKind.Stack }) m)
 
+  abbrev pub eval-with : (spent : ParserState → Ending ParserState) → (room : ℕ) → Exp → ParserState → Ending ParserState
+  eval-with spent zero e m = level-with false no-deeper spent e m
+  eval-with spent (suc d) e m = level-with true (eval-with spent d) spent e m
+
+  -- The evaluation that the code is proved equal to, where `bounded` is true.
   abbrev pub eval : (room : ℕ) → Exp → ParserState → Ending ParserState
-  eval zero e m = level false no-deeper e m
-  eval (suc d) e m = level true (eval d) e m
+  eval d e m = eval-with (λ t. Err t) d e m
 
 -- ── state ──
 abbrev pub sort-in : ℕ → List ℕ → List ℕ
@@ -546,6 +568,10 @@ result-of (Ok m) = pairs-of (m .call-tracker .limit-reached) m
 result-of (Err m) = error-of (m .call-tracker .limit-reached) m
 result-of (Stop c) = Panic
 
--- `state`, of pest itself: nothing is bounded.
-abbrev pub state : Setting → (depth-limit call-limit : ℕ) → Exp → Result
-state g depth limit e = result-of (eval g false depth e (new limit))
+-- How pest's own evaluation of a root ends, in which nothing is bounded and no loop comes to `spent`.
+abbrev pub ending : (spent : ParserState → Ending ParserState) → Setting → (depth-limit call-limit : ℕ) → Exp → Ending ParserState
+ending spent g depth limit e = eval-with g false spent depth e (new limit)
+
+-- `state`
+abbrev pub state : (spent : ParserState → Ending ParserState) → Setting → (depth-limit call-limit : ℕ) → Exp → Result
+state spent g depth limit e = result-of (ending spent g depth limit e)

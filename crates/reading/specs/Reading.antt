@@ -35,6 +35,10 @@ most-debt = 1024
 abbrev pub most-attempts : ℕ
 most-attempts = 256
 
+-- How many rounds a repeat that begins at p is given, here and on pest's side: one for each byte that is left, and one to fail.
+abbrev pub most-rounds : Setting → (p : ℕ) → ℕ
+most-rounds g p = suc (length (g .text) - p)
+
 -- ── State ──
 -- The call limit, the counted calls, and "A cause once set".
 pub record Tracker : Type 0 where
@@ -261,7 +265,8 @@ round-end (Ok t) again = again t
 round-end (Err t) again = if limited t then Err t else Ok t
 round-end (Stop c) again = Stop c
 
--- `fuel` bounds the rounds. In an accepted grammar it is never used up (the law `repeat-is-loop` of proofs/).
+-- A definition has to end, so `fuel` bounds the rounds. In an accepted grammar it is never used up: the law `repeat-is-loop` of
+-- proofs/Loop says that the rounds are those of a loop with no bound, `Loops` of Ending.
 abbrev pub rounds : (fuel : ℕ) → (State → Ending State) → State → Ending State
 rounds zero body s = Err s
 rounds (suc n) body s = round-end (body s) (λ t. rounds n body t)
@@ -400,7 +405,7 @@ module _ (g : Setting) where
     level (or-else a b) s = on-err (level a s) (λ t. level b t)
     level (rule line r e) s = at-rule (record { line = line; rule = r; body = e }) s
     level (sequence e) s = counted s (λ t. sequence-end t (deeper e (open-checkpoint t)))
-    level (repeat e) s = counted s (λ t. rounds (suc (length (g .text) - t .position)) (deeper e) t)
+    level (repeat e) s = counted s (λ t. rounds (most-rounds g (t .position)) (deeper e) t)
     level (optional e) s = counted s (λ t. optional-end (deeper e t))
     level (lookahead b e) s = counted s (λ t. lookahead-end b t (deeper e (open-checkpoint (with-lookahead (lookahead-in b (t .lookahead)) t))))
     level (atomic a e) s = counted s (λ t. atomic-end t (deeper e (with-atomicity a t)))
