@@ -1,8 +1,7 @@
 -- The tracker's answer decides, and the state goes on with its tracker.
-use mathlib.Core.Path.{ap}
+use mathlib.Core.Path.{sym, _∙_}
 use mathlib.Core.Bool.{true, false}
 use lib.Dec.{ltb}
-use Rattle.checks.specs.Tracker.{entered-of}
 use Rattle.engine.proofs.EntryLaws.{entry-is}
 use borrow.Author.Needs.{needs}
 use Rattle.engine.proofs.entry.enter.Statement.{statement}
@@ -30,13 +29,13 @@ same-length : tie.Need-same-length
 same-length c = search needs
 
 returns : tie.Need-returns
-returns c = entry-is true (ltb 0 (c .before .before .before .before .before .before .before .before .before .before .before .args .depth)) (c .before .before .before .before .before .before .before .before .before .before .before .args .counted) _ _ _ _ (c .before .before .before .before .before .before .before .entered .result) (c .before .before .before .before .before .before .before .before .tracker .ensures) (c .before .before .before .before .before .before .before .entered .ensures) (ap entered-of (c .before .before .before .before .before .u .given .1)) (c .before .before .set-tracker .ensures)
+returns c = entry-is true (ltb 0 (c .before .before .before .before .before .before .before .before .before .before .before .args .depth)) (c .before .before .before .before .before .before .before .before .before .before .before .args .counted) _ _ _ _ (c .before .before .before .before .before .before .before .before .tracker .ensures) (sym (c .before .before .before .before .before .u .given .1) ∙ c .before .before .before .before .before .before .before .entered .ensures) (c .before .before .set-tracker .ensures)
 
 same-length-2 : tie.Need-same-length-2
 same-length-2 c = search needs
 
 returns-2 : tie.Need-returns-2
-returns-2 c = entry-is false (ltb 0 (c .before .before .before .before .before .before .before .before .before .before .before .args .depth)) (c .before .before .before .before .before .before .before .before .before .before .before .args .counted) _ _ _ _ (c .before .before .before .before .before .before .before .entered .result) (c .before .before .before .before .before .before .before .before .tracker .ensures) (c .before .before .before .before .before .before .before .entered .ensures) (ap entered-of (c .before .before .before .before .before .u2 .given .1)) (c .before .before .set-tracker2 .ensures)
+returns-2 c = entry-is false (ltb 0 (c .before .before .before .before .before .before .before .before .before .before .before .args .depth)) (c .before .before .before .before .before .before .before .before .before .before .before .args .counted) _ _ _ _ (c .before .before .before .before .before .before .before .before .tracker .ensures) (sym (c .before .before .before .before .before .u2 .given .1) ∙ c .before .before .before .before .before .before .before .entered .ensures) (c .before .before .set-tracker2 .ensures)
 
 pub enter-spec : {M : Type 1} → statement M
 enter-spec =
