@@ -10,7 +10,7 @@ use Rattle.checks.specs.declared.call_limit_tracker.CallLimitTracker as 
 use Rattle.checks.specs.declared.call_limit_tracker.Admitted.{Admitted}
 use Rattle.checks.specs.declared.call_limit_tracker.Admitted.the-variants.{Yes, No}
 use Rattle.reading.specs.Ending.{if_then_else_}
-use Rattle.reading.specs.Reading.{Tracker, Entry, entered, refused}
+use Rattle.reading.specs.Reading.{Tracker, Entry, entered, refused, enter}
 use Rattle.reading.specs.Pest as Pest
 
 abbrev pub reached-of : LimitReached → Option LimitKind
@@ -40,10 +40,18 @@ abbrev pub admitted : (was : Code.CallLimitTracker) → Entry → Admitted
 admitted was (entered t) = Yes (kept was t)
 admitted was (refused t) = No (kept was t)
 
+-- An entry at the code's tracker t.
+abbrev pub entry-at : (room counts : Bool) → Code.CallLimitTracker → Admitted
+entry-at room counts t = admitted t (enter room counts (reading-of t))
+
 -- The same where the answer and the tracker come apart.
 abbrev pub answered : (let-in : Bool) → Code.CallLimitTracker → Admitted
 answered true t = Yes t
 answered false t = No t
+
+-- One counted call more.
+abbrev pub one-more : Code.CallLimitTracker → Code.CallLimitTracker
+one-more t = record { current = count-of (t .limit) (t .current) (suc (t .current)); limit = t .limit; reached = t .reached }
 
 -- The depth limit, which is tested last: `next` is the tracker of an entry that it lets in.
 abbrev pub by-depth : (room : Bool) → (t next : Code.CallLimitTracker) → Admitted

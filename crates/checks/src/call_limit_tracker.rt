@@ -2,11 +2,10 @@
 use reading::call_limit_tracker::LimitKind;
 ghost use mathlib.Core.Path.{_≡_};
 ghost use mathlib.Core.Bool.{false};
-ghost use Prim.Native.Nat.{suc};
 ghost use lib.Dec.{ltb};
 ghost use Rattle.checks.specs.declared.call_limit_tracker.LimitReached.the-variants as Reached;
-ghost use Rattle.reading.specs.Reading.{over, enter};
-ghost use Rattle.checks.specs.Tracker.{reading-of, count-of, by-depth, admitted, answered};
+ghost use Rattle.reading.specs.Reading.{over};
+ghost use Rattle.checks.specs.Tracker.{one-more, by-depth, entry-at, answered};
 
 // Whether a limit was reached (pest's `Option<LimitKind>`).
 pub enum LimitReached {
@@ -45,7 +44,7 @@ fn exceeded(t: CallLimitTracker) -> bool
 // One counted call more. Where there is no limit nothing is counted, so that the count never overflows.
 fn one_more(t: CallLimitTracker) -> CallLimitTracker
     requires { ⌜ over (t .limit) (t .current) ≡ false ⌝ }
-    ensures { λ r. ⌜ r ≡ record { current = count-of (t .limit) (t .current) (suc (t .current)); limit = t .limit; reached = t .reached } ⌝ }
+    ensures { λ r. ⌜ r ≡ one-more t ⌝ }
 {
     let current = t.current;
     let limit = t.limit;
@@ -74,7 +73,7 @@ fn by_depth(t: CallLimitTracker, next: CallLimitTracker, room: bool) -> Admitted
 // The limits where no cause is set: the call limit before the depth limit.
 fn by_limits(t: CallLimitTracker, counted: bool, room: bool) -> Admitted
     requires { ⌜ t .reached ≡ Reached.No ⌝ }
-    ensures { λ r. ⌜ r ≡ admitted t (enter room counted (reading-of t)) ⌝ }
+    ensures { λ r. ⌜ r ≡ entry-at room counted t ⌝ }
 {
     if counted {
         if exceeded(t) {
@@ -93,7 +92,7 @@ fn by_limits(t: CallLimitTracker, counted: bool, room: bool) -> Admitted
 
 // `enter`, by value: "A cause once set refuses every later entry."
 pub fn entered(t: CallLimitTracker, counted: bool, room: bool) -> Admitted
-    ensures { λ r. ⌜ r ≡ admitted t (enter room counted (reading-of t)) ⌝ }
+    ensures { λ r. ⌜ r ≡ entry-at room counted t ⌝ }
 {
     let reached = t.reached;
     match reached {
@@ -104,7 +103,7 @@ pub fn entered(t: CallLimitTracker, counted: bool, room: bool) -> Admitted
 
 // The core's answer laid out for `enter` to store.
 fn entered_with(t: CallLimitTracker, counted: bool, room: usize) -> Answered
-    ensures { λ r. ⌜ answered (r .answer) (r .tracker) ≡ admitted t (enter (ltb 0 room) counted (reading-of t)) ⌝ }
+    ensures { λ r. ⌜ answered (r .answer) (r .tracker) ≡ entry-at (ltb 0 room) counted t ⌝ }
 {
     match entered(t, counted, 0 < room) {
         Admitted::Yes(tracker) => Answered {
@@ -118,12 +117,22 @@ fn entered_with(t: CallLimitTracker, counted: bool, room: usize) -> Answered
     }
 }
 
-// pest's `enter`: the tracker is lent, and updated; whether the entry is let in. `room`: how many more calls may be open, 0 where the stand-in
+// pest's `enter`: the tracker is lent, and updated; whether the entry is let in. `room`: how many more calls may be open; at 0 the stand-in
 // for `remaining_stack` gives `Some(0)`.
 pub fn enter(tracker: &mut CallLimitTracker, count_call: bool, room: usize) -> bool
-    ensures { λ r. ⌜ answered r (now (tracker .exit)) ≡ admitted (now (tracker .entry)) (enter (ltb 0 room) «count_call» (reading-of (now (tracker .entry)))) ⌝ }
+    ensures { λ r. ⌜ answered r (now (tracker .exit)) ≡ entry-at (ltb 0 room) «count_call» (now (tracker .entry)) ⌝ }
 {
     let next = entered_with(*tracker, count_call, room);
     *tracker = next.tracker;
     next.answer
+}
+
+// An entry for whoever holds the tracker by value: it is lent to `enter`, and comes back beside the answer. Who calls this needs no proof by
+// hand.
+pub fn check_limit(t: CallLimitTracker, count_call: bool, room: usize) -> Answered
+    ensures { λ r. ⌜ answered (r .answer) (r .tracker) ≡ entry-at (ltb 0 room) «count_call» t ⌝ }
+{
+    let mut tracker = t;
+    let answer = enter(&mut tracker, count_call, room);
+    Answered { answer, tracker }
 }

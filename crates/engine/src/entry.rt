@@ -3,9 +3,8 @@ use crate::fields::set_cause;
 use crate::fields::set_tracker;
 use crate::fields::tracker;
 use crate::parser_state::Ending;
-use checks::call_limit_tracker::Admitted;
 use checks::call_limit_tracker::LimitReached;
-use checks::call_limit_tracker::entered;
+use checks::call_limit_tracker::check_limit;
 use reading::parser_state::Cause;
 ghost use mathlib.Core.Path.{_≡_};
 ghost use mathlib.Core.List.{List};
@@ -18,23 +17,16 @@ ghost use Rattle.engine.specs.Fields.{state-size, fields};
 ghost use Rattle.engine.specs.Areas.{view, view-end};
 ghost use Rattle.engine.specs.Entry.{entering, view-entry};
 
-// Whether the call is let in. `depth`: how many more calls may be open.
+// Whether the call is let in: the tracker goes to checks, which lends it to pest's `enter`. `depth`: how many more calls may be open.
 pub(crate) fn enter(s: &mut [usize], counted: bool, depth: usize) -> bool
     requires { ⌜ state-size ≤ length (now s) ⌝ }
     ensures { λ r. ⌜ ((tokens scratch : List ℕ) → view-entry r (view tokens scratch (fields (now (s .exit)))) ≡ entering (ltb 0 depth) counted (view tokens scratch (fields (now (s .entry))))) ⌝ }
 {
     let t = tracker(s);
-    let room = 0 < depth;
-    match entered(t, counted, room) {
-        Admitted::Yes(u) => {
-            set_tracker(s, u);
-            true
-        }
-        Admitted::No(u) => {
-            set_tracker(s, u);
-            false
-        }
-    }
+    let next = check_limit(t, counted, depth);
+    let after = next.tracker;
+    set_tracker(s, after);
+    next.answer
 }
 
 // A stop: why, and at which line, is written into the state.
