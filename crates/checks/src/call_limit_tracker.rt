@@ -49,11 +49,10 @@ fn one_more(t: CallLimitTracker) -> CallLimitTracker
     let current = t.current;
     let limit = t.limit;
     if limit == 0 {
-        t
-    } else {
-        let next = current + 1;
-        CallLimitTracker { current: next, ..t }
+        return t;
     }
+    let next = current + 1;
+    CallLimitTracker { current: next, ..t }
 }
 
 // The depth limit, which is tested last: `next` is the tracker of an entry that it lets in.
