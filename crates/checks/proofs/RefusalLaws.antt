@@ -1,7 +1,7 @@
 -- The tests 4 to 9 in order: the first that fails is the refusal, whatever the later ones say.
 use mathlib.Core.Path.{_≡_, refl, sym, ap, _∙_}
 use mathlib.Core.Bool.{Bool, true, false, _&&_}
-use mathlib.Core.List.{List, [], _∷_}
+use mathlib.Core.List.{List}
 use mathlib.Core.Option.{Option, none, some}
 use Prim.Native.Nat.{ℕ, _*_, _≤_, _<_}
 use native.Mathlib.Omega.{arith}
@@ -17,10 +17,10 @@ use Rattle.checks.specs.declared.grammar.Refused.{Refused}
 use Rattle.checks.specs.declared.grammar.Refused.the-variants.{No, By}
 use Rattle.reading.specs.Grammar.{line-count, misfit}
 use Rattle.reading.specs.Nullable.{still-repeat}
-use Rattle.reading.specs.Outcome.{Input, Refusal, refuse, unless, good-text, first-of, refusal}
+use Rattle.reading.specs.Outcome.{Input, Refusal, good-text, first-of, refusal-on, refusal}
 use Rattle.checks.specs.FieldTests.{fault-of}
 use Rattle.reading.proofs.Accepted.{misfit-fours}
-use Rattle.checks.specs.Refusals.{refused-of, Handed, later-tests}
+use Rattle.checks.specs.Refusals.{refused-of, later-tests}
 
 -- ── A good text ──
 module _ (x : List ℕ) where
@@ -60,35 +60,31 @@ passed none e = refl
 passed (some q) e = let z : _≡_ {A = ℕ} 0 1 = cc in absurd (omega arith)
 
 module _ (ns : List ℤ) (literals text : List ℕ) (depth report scratch : ℕ) where
-  abbrev All : Option Refusal
-  All = first-of (refuse 4 (unless (good-text literals)) ∷ refuse 5 (misfit ns literals) ∷ refuse 6 (still-repeat ns) ∷ later-tests text depth report scratch)
+  abbrev All : Refused
+  All = refused-of (refusal-on ns literals text depth report scratch)
 
-  handed : (i : Input) → Handed i ns literals text depth report scratch → All ≡ refusal i
-  unfolding refusal
-  handed i h = sym (λ k.
-      first-of (refuse 4 (unless (good-text (h .literals-are k))) ∷ refuse 5 (misfit (h .nodes-are k) (h .literals-are k)) ∷ refuse 6 (still-repeat (h .nodes-are k))
-      ∷ refuse 7 (unless (good-text (h .text-is k))) ∷ refuse 8 (unless (within 1 1024 (h .depth-is k))) ∷ refuse 9 (unless (leb 515 (h .report-is k) && leb 4864 (h .scratch-is k))) ∷ []))
-
-  module _ {g : Bool} (e : g ≡ good-text literals) (i : Input) (h : Handed i ns literals text depth report scratch) where
-    by-all : {r : Refused} → r ≡ refused-of All → r ≡ refused-of (refusal i)
-    by-all q = q ∙ ap refused-of (handed i h)
-
-    pub refused-4 : g ≡ false → By 4 0 ≡ refused-of (refusal i)
-    refused-4 f = let z : good-text literals ≡ false = sym e ∙ f in by-all (sym (rw z))
+  module _ {g : Bool} (e : g ≡ good-text literals) where
+    pub refused-4 : g ≡ false → By 4 0 ≡ All
+    refused-4 f = let z : good-text literals ≡ false = sym e ∙ f in sym (rw z)
 
     module _ (f : g ≡ true) where
       good : good-text literals ≡ true
       good = sym e ∙ f
 
-      pub refused-5 : (p : ℕ) → Fault.At p ≡ fault-of (misfit ns literals) → By 5 p ≡ refused-of (refusal i)
-      refused-5 p q = by-all (sym (rw (good, found (misfit ns literals) p q)))
+      pub refused-5 : (p : ℕ) → Fault.At p ≡ fault-of (misfit ns literals) → By 5 p ≡ All
+      refused-5 p q = sym (rw (good, found (misfit ns literals) p q))
 
       module _ (m : Fault.No ≡ fault-of (misfit ns literals)) where
-        pub refused-6 : (p : ℕ) → Fault.At p ≡ fault-of (still-repeat ns) → By 6 p ≡ refused-of (refusal i)
-        refused-6 p q = by-all (sym (rw (good, passed (misfit ns literals) m, found (still-repeat ns) p q)))
+        pub refused-6 : (p : ℕ) → Fault.At p ≡ fault-of (still-repeat ns) → By 6 p ≡ All
+        refused-6 p q = sym (rw (good, passed (misfit ns literals) m, found (still-repeat ns) p q))
 
-        pub refused-later : Fault.No ≡ fault-of (still-repeat ns) → (r : Refused) → r ≡ refused-of (first-of (later-tests text depth report scratch)) → r ≡ refused-of (refusal i)
-        refused-later s r q = by-all (q ∙ sym (rw (good, passed (misfit ns literals) m, passed (still-repeat ns) s)))
+        pub refused-later : Fault.No ≡ fault-of (still-repeat ns) → (r : Refused) → r ≡ refused-of (first-of (later-tests text depth report scratch)) → r ≡ All
+        refused-later s r q = q ∙ sym (rw (good, passed (misfit ns literals) m, passed (still-repeat ns) s))
+
+-- The refusal of an input is that of its parts.
+pub of-input : {r : Refused} (i : Input) → r ≡ refused-of (refusal-on (i .nodes) (i .literals) (i .text) (i .depth-limit) (length (i .report)) (i .scratch)) → r ≡ refused-of (refusal i)
+unfolding refusal
+of-input i e = e
 
 -- ── What test 5 gives ──
 pub few-nodes : (ns : List ℤ) (literals : List ℕ) → Fault.No ≡ fault-of (misfit ns literals) → length ns ≤ 16384

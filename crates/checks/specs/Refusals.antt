@@ -1,29 +1,17 @@
 -- How the code's answer to the tests 4 to 9 stands for a refusal: what the contract of src/grammar.rt's `refusal` cites.
-use mathlib.Core.Path.{_≡_}
 use mathlib.Core.Bool.{_&&_}
 use mathlib.Core.List.{List, [], _∷_}
 use mathlib.Core.Option.{Option, none, some}
 use Prim.Native.Nat.{ℕ}
 use lib.Dec.{leb}
-use lib.IntN.{ℤ}
-use lib.ListN.{length}
 use Rattle.matching.specs.Utf8.{within}
 use Rattle.checks.specs.declared.grammar.Refused.{Refused}
 use Rattle.checks.specs.declared.grammar.Refused.the-variants.{No, By}
-use Rattle.reading.specs.Outcome.{Input, Refusal, refuse, unless, good-text}
+use Rattle.reading.specs.Outcome.{Refusal, refuse, unless, good-text}
 
 abbrev pub refused-of : Option Refusal → Refused
 refused-of none = No
 refused-of (some r) = By (r .number) (r .place)
-
--- An input with these nodes, texts, depth limit and sizes, whatever else it holds.
-pub record Handed (i : Input) (nodes : List ℤ) (literals text : List ℕ) (depth report scratch : ℕ) : Type 0 where
-  pub nodes-are : i .nodes ≡ nodes
-  pub literals-are : i .literals ≡ literals
-  pub text-is : i .text ≡ text
-  pub depth-is : i .depth-limit ≡ depth
-  pub report-is : length (i .report) ≡ report
-  pub scratch-is : i .scratch ≡ scratch
 
 -- The tests that do not look at the grammar: 7 to 9.
 abbrev pub later-tests : (text : List ℕ) → (depth report scratch : ℕ) → List (Option Refusal)

@@ -1,10 +1,11 @@
-// The call tracker: counted calls, the call limit and the cause, by value; and `enter`, which is lent it.
+// The call tracker: counted calls, the call limit and the cause, by value; `enter`, which is lent it; and `check_limit`, which lends it.
 use reading::call_limit_tracker::LimitKind;
 ghost use mathlib.Core.Path.{_≡_};
 ghost use mathlib.Core.Bool.{false};
+ghost use lib.Dec.{ltb};
 ghost use Rattle.checks.specs.declared.call_limit_tracker.LimitReached.the-variants as Reached;
-ghost use Rattle.reading.specs.Pest.{exceeded, one-more, enter};
-ghost use Rattle.checks.specs.Tracker.{limit-of, tracker-of, entered-of, entered-with, by-depth, room-for};
+ghost use Rattle.reading.specs.Reading.{over};
+ghost use Rattle.checks.specs.Tracker.{one-more, by-depth, entry-at, answered};
 
 // Whether a limit was reached (pest's `Option<LimitKind>`).
 pub enum LimitReached {
@@ -25,9 +26,15 @@ pub enum Admitted {
     No(CallLimitTracker),
 }
 
+// The same beside each other.
+pub struct Answered {
+    pub answer: bool,
+    pub tracker: CallLimitTracker,
+}
+
 // Whether the counted calls number the call limit.
 fn exceeded(t: CallLimitTracker) -> bool
-    ensures { λ r. ⌜ r ≡ exceeded (limit-of (t .current) (t .limit)) ⌝ }
+    ensures { λ r. ⌜ r ≡ over (t .limit) (t .current) ⌝ }
 {
     let current = t.current;
     let limit = t.limit;
@@ -36,22 +43,21 @@ fn exceeded(t: CallLimitTracker) -> bool
 
 // One counted call more. Where there is no limit nothing is counted, so that the count never overflows.
 fn one_more(t: CallLimitTracker) -> CallLimitTracker
-    requires { ⌜ exceeded (limit-of (t .current) (t .limit)) ≡ false ⌝ }
-    ensures { λ r. ⌜ tracker-of r ≡ record { current-call-limit = one-more (tracker-of t .current-call-limit); limit-reached = tracker-of t .limit-reached } ⌝ }
+    requires { ⌜ over (t .limit) (t .current) ≡ false ⌝ }
+    ensures { λ r. ⌜ r ≡ one-more t ⌝ }
 {
     let current = t.current;
     let limit = t.limit;
     if limit == 0 {
-        t
-    } else {
-        let next = current + 1;
-        CallLimitTracker { current: next, ..t }
+        return t;
     }
+    let next = current + 1;
+    CallLimitTracker { current: next, ..t }
 }
 
 // The depth limit, which is tested last: `next` is the tracker of an entry that it lets in.
 fn by_depth(t: CallLimitTracker, next: CallLimitTracker, room: bool) -> Admitted
-    ensures { λ r. ⌜ entered-of r ≡ by-depth room (tracker-of t) (tracker-of next) ⌝ }
+    ensures { λ r. ⌜ r ≡ by-depth room t next ⌝ }
 {
     if room {
         Admitted::Yes(next)
@@ -66,7 +72,7 @@ fn by_depth(t: CallLimitTracker, next: CallLimitTracker, room: bool) -> Admitted
 // The limits where no cause is set: the call limit before the depth limit.
 fn by_limits(t: CallLimitTracker, counted: bool, room: bool) -> Admitted
     requires { ⌜ t .reached ≡ Reached.No ⌝ }
-    ensures { λ r. ⌜ entered-of r ≡ enter room counted (tracker-of t) ⌝ }
+    ensures { λ r. ⌜ r ≡ entry-at room counted t ⌝ }
 {
     if counted {
         if exceeded(t) {
@@ -85,7 +91,7 @@ fn by_limits(t: CallLimitTracker, counted: bool, room: bool) -> Admitted
 
 // `enter`, by value: "A cause once set refuses every later entry."
 pub fn entered(t: CallLimitTracker, counted: bool, room: bool) -> Admitted
-    ensures { λ r. ⌜ entered-of r ≡ enter room counted (tracker-of t) ⌝ }
+    ensures { λ r. ⌜ r ≡ entry-at room counted t ⌝ }
 {
     let reached = t.reached;
     match reached {
@@ -94,17 +100,11 @@ pub fn entered(t: CallLimitTracker, counted: bool, room: bool) -> Admitted
     }
 }
 
-// What an entry answers beside the tracker after it, for `enter` to store.
-struct Answered {
-    answer: bool,
-    tracker: CallLimitTracker,
-}
-
-fn entered_with(t: CallLimitTracker, counted: bool, opened: u32, depth: u32) -> Answered
-    ensures { λ r. ⌜ entered-with (r .answer) (r .tracker) ≡ enter (room-for opened depth) counted (tracker-of t) ⌝ }
+// The core's answer laid out for `enter` to store.
+fn entered_with(t: CallLimitTracker, counted: bool, room: usize) -> Answered
+    ensures { λ r. ⌜ answered (r .answer) (r .tracker) ≡ entry-at (ltb 0 room) counted t ⌝ }
 {
-    let room = opened < depth;
-    match entered(t, counted, room) {
+    match entered(t, counted, 0 < room) {
         Admitted::Yes(tracker) => Answered {
             answer: true,
             tracker,
@@ -116,17 +116,22 @@ fn entered_with(t: CallLimitTracker, counted: bool, opened: u32, depth: u32) -> 
     }
 }
 
-// pest's `enter`: the tracker is lent, and updated; whether the entry is let in. The call limit is tested before the depth limit, for which
-// `open_calls` calls are open. Where there is no call limit, the tracker's count stands for nothing.
-pub fn enter(
-    tracker: &mut CallLimitTracker,
-    count_call: bool,
-    open_calls: u32,
-    depth_limit: u32,
-) -> bool
-    ensures { λ r. ⌜ entered-with r (now (tracker .exit)) ≡ enter (room-for «open_calls» «depth_limit») «count_call» (tracker-of (now (tracker .entry))) ⌝ }
+// pest's `enter`: the tracker is lent, and updated; whether the entry is let in. `room`: how many more calls may be open; at 0 the stand-in
+// for `remaining_stack` gives `Some(0)`.
+pub fn enter(tracker: &mut CallLimitTracker, count_call: bool, room: usize) -> bool
+    ensures { λ r. ⌜ answered r (now (tracker .exit)) ≡ entry-at (ltb 0 room) «count_call» (now (tracker .entry)) ⌝ }
 {
-    let next = entered_with(*tracker, count_call, open_calls, depth_limit);
+    let next = entered_with(*tracker, count_call, room);
     *tracker = next.tracker;
     next.answer
+}
+
+// An entry for whoever holds the tracker by value: it is lent to `enter`, and comes back beside the answer. Who calls this needs no proof by
+// hand.
+pub fn check_limit(t: CallLimitTracker, count_call: bool, room: usize) -> Answered
+    ensures { λ r. ⌜ answered (r .answer) (r .tracker) ≡ entry-at (ltb 0 room) «count_call» t ⌝ }
+{
+    let mut tracker = t;
+    let answer = enter(&mut tracker, count_call, room);
+    Answered { answer, tracker }
 }

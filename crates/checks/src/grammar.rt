@@ -12,8 +12,8 @@ ghost use lib.Dec.{eqb};
 ghost use lib.ListN.{length};
 ghost use Rattle.matching.specs.Utf8.{is-utf8};
 ghost use Rattle.reading.specs.Grammar.{line-count, node-at, kind-at, edge, fields-fit, line-fits, first-line, misfit};
-ghost use Rattle.reading.specs.Outcome.{Input, good-text, first-of, refusal};
-ghost use Rattle.checks.specs.Refusals.{refused-of, Handed, later-tests};
+ghost use Rattle.reading.specs.Outcome.{good-text, first-of, refusal-on};
+ghost use Rattle.checks.specs.Refusals.{refused-of, later-tests};
 ghost use Rattle.checks.specs.FieldTests.{in-range, part-in, tests-of, fault-of, line-misfits};
 
 // The first line that a test finds; 0 stands for the nodes as a whole.
@@ -245,7 +245,7 @@ fn later_refusal(text: &[u8], depth: u32, report: usize, scratch: usize) -> Refu
     Refused::No
 }
 
-// The tests of a run, 4 to 9, in order. Only where all pass is a run started.
+// The tests of a run, 4 to 9, in order. Only where all pass is a run started. Of report and scratch the tests look at the sizes alone.
 pub fn refusal(
     nodes: &[i32],
     literals: &[u8],
@@ -254,7 +254,7 @@ pub fn refusal(
     report: usize,
     scratch: usize,
 ) -> Refused
-    ensures { λ r. ⌜ ((i : Input) → Handed i (now (nodes .entry)) (now (literals .entry)) (now (text .entry)) depth report scratch → r ≡ refused-of (refusal i)) ⌝ }
+    ensures { λ r. ⌜ r ≡ refused-of (refusal-on (now (nodes .entry)) (now (literals .entry)) (now (text .entry)) depth report scratch) ⌝ }
 {
     if !is_good_text(literals) {
         return Refused::By(4, 0);

@@ -8,7 +8,7 @@ ghost use lib.IntN.{pos};
 ghost use lib.ListN.{length, getD};
 ghost use Rattle.reading.specs.Ending.{if_then_else_};
 ghost use Rattle.reading.specs.Grammar.{natural, kind-at, row};
-ghost use Rattle.reading.specs.Pest.{normalize-index, normalize-end};
+ghost use Rattle.reading.specs.Reading.{index-in, end-in};
 ghost use Rattle.checks.specs.FieldTests.{field-of};
 ghost use Rattle.checks.specs.PeekIndex.{index-of};
 
@@ -68,7 +68,7 @@ pub enum Index {
 
 // "an index above the height, or below minus the height, fails; a negative one counts from the height"
 pub fn normalize_index(i: i32, len: usize) -> Index
-    ensures { λ r. ⌜ r ≡ index-of (normalize-index i len) ⌝ }
+    ensures { λ r. ⌜ r ≡ index-of (index-in len i) ⌝ }
 {
     if i < 0 {
         // by 64 bits, since the least number has no negative in 32
@@ -88,7 +88,7 @@ pub fn normalize_index(i: i32, len: usize) -> Index
 
 // Field c of kind 16: "0 bottom up, 1 top down; 2, 3 the same without end".
 pub fn normalize_end(i: i32, c: usize, len: usize) -> Index
-    ensures { λ r. ⌜ r ≡ index-of (normalize-end (if ltb c 2 then some i else none) len) ⌝ }
+    ensures { λ r. ⌜ r ≡ index-of (end-in len (if ltb c 2 then some i else none)) ⌝ }
 {
     if c < 2 {
         normalize_index(i, len)

@@ -38,7 +38,9 @@ use Rattle.engine.specs.Bounded.{Push, kept, Take, got, pushed, taken, t
 use Rattle.reading.specs.Sound.{Sound}
 use Rattle.engine.specs.StackReady.{StackReady, StateReady, OutsideStack}
 use Rattle.engine.specs.StackMatch.{match-of, match-end}
+use Rattle.reading.specs.Reading.{index-in, end-in}
 use Rattle.checks.specs.PeekIndex.{index-of}
+use Rattle.checks.proofs.IndexLaws.{pest-index, pest-end}
 use Rattle.engine.proofs.Regions.{pairs-length, numbers-length}
 use Rattle.engine.proofs.ReadyLaws.{positives-kept, negatives-kept, ready-of}
 use Rattle.engine.proofs.Matching.{match-string-same}
@@ -284,7 +286,7 @@ module _ (text : List ℕ) (i : ℤ) (j : Option ℤ) (d : Bool) (m : Pest.Parse
 abbrev pub end-of : (c : ℕ) → (b : ℤ) → Option ℤ
 end-of c b = if ltb c 2 then some b else none
 
-module _ (text a : List ℕ) (i b : ℤ) (c : ℕ) (s : ParserState) (v : Stack) (ev : v ≡ s .stack) (r : Index) (er : r ≡ index-of (normalize-index i (v .height))) where
+module _ (text a : List ℕ) (i b : ℤ) (c : ℕ) (s : ParserState) (v : Stack) (ev : v ≡ s .stack) (r : Index) (er : r ≡ index-of (index-in (v .height) i)) where
   tall : (tokens : List ℕ) → length (view tokens a s .stack .cache) ≡ v .height
   tall tokens = pairs-length span a 0 (s .stack .height) ∙ sym (ap (λ (u : Stack). u .height) ev)
 
@@ -292,19 +294,19 @@ module _ (text a : List ℕ) (i b : ℤ) (c : ℕ) (s : ParserState) (v : Stack)
   down = eqb c 1 || eqb c 3
 
   pub start-out : r ≡ Index.Outside → (tokens : List ℕ) → Err (view tokens a s) ≡ stack-match-peek-slice text i (end-of c b) down (view tokens a s)
-  start-out f tokens = peek-start-out text i (end-of c b) down (view tokens a s) (v .height) (tall tokens) (index-out (normalize-index i (v .height)) r er f)
+  start-out f tokens = peek-start-out text i (end-of c b) down (view tokens a s) (v .height) (tall tokens) (index-out (normalize-index i (v .height)) r (pest-index i (v .height) er) f)
 
-  module _ (start : ℕ) (f : r ≡ Index.At start) (r₂ : Index) (er₂ : r₂ ≡ index-of (normalize-end (end-of c b) (v .height))) where
+  module _ (start : ℕ) (f : r ≡ Index.At start) (r₂ : Index) (er₂ : r₂ ≡ index-of (end-in (v .height) (end-of c b))) where
     start-is : normalize-index i (v .height) ≡ some start
-    start-is = index-at (normalize-index i (v .height)) r start er f
+    start-is = index-at (normalize-index i (v .height)) r start (pest-index i (v .height) er) f
 
     pub end-out : r₂ ≡ Index.Outside → (tokens : List ℕ) → Err (view tokens a s) ≡ stack-match-peek-slice text i (end-of c b) down (view tokens a s)
     end-out g tokens =
-        peek-end-out text i (end-of c b) down (view tokens a s) (v .height) (tall tokens) start start-is (index-out (normalize-end (end-of c b) (v .height)) r₂ er₂ g)
+        peek-end-out text i (end-of c b) down (view tokens a s) (v .height) (tall tokens) start start-is (index-out (normalize-end (end-of c b) (v .height)) r₂ (pest-end (end-of c b) (v .height) er₂) g)
 
     module _ (end : ℕ) (g : r₂ ≡ Index.At end) where
       end-is : normalize-end (end-of c b) (v .height) ≡ some end
-      end-is = index-at (normalize-end (end-of c b) (v .height)) r₂ end er₂ g
+      end-is = index-at (normalize-end (end-of c b) (v .height)) r₂ end (pest-end (end-of c b) (v .height) er₂) g
 
       pub end-below : end ≤ v .height
       end-below = end-inside (end-of c b) (v .height) end end-is

@@ -1,7 +1,7 @@
 // The terminals of a grammar that are not the matching crate's own: document 01's kinds 1, 2 and 5.
 use matching::position::BytePosition;
 use matching::position::Matched;
-use matching::position::at_end;
+use matching::position::end_of_input;
 use matching::position::match_insensitive;
 use matching::position::match_string;
 ghost use mathlib.Core.Path.{_≡_};
@@ -34,11 +34,11 @@ pub(crate) fn match_literal<'a>(
     }
 }
 
-// Kind 5: a match of no bytes at the end.
+// Kind 5: a match of no bytes at the end, by the position's own test.
 pub(crate) fn match_end(text: &[u8], p: BytePosition) -> Matched
     ensures { λ r. ⌜ match-of r ≡ (if Position.at-end (now (text .entry)) (p .0) then some (p .0) else none) ⌝ }
 {
-    if at_end(text, p) {
+    if end_of_input(text, p) {
         Matched::At(p)
     } else {
         Matched::Failed

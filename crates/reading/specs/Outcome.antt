@@ -45,27 +45,34 @@ unless good = if good then none else some 0
 abbrev pub good-text : List ℕ → Bool
 good-text x = leb (length x) 65535 && is-utf8 x
 
--- The tests of a run, in order.
-abbrev pub tests : Input → List (Option Refusal)
-tests i =
+-- The tests of a run, in order, by all that they look at: `report` and `scratch` are sizes.
+abbrev pub tests-on : List ℤ → (literals text : List ℕ) → (depth-limit report scratch : ℕ) → List (Option Refusal)
+tests-on nodes literals text depth report scratch =
     -- "literal text over 65,535 bytes or not UTF-8"
-    refuse 4 (unless (good-text (i .literals)))
+    refuse 4 (unless (good-text literals))
     -- "nodes not 1 to 4,096 fours; a line against the table"
-    ∷ refuse 5 (misfit (i .nodes) (i .literals))
+    ∷ refuse 5 (misfit nodes literals)
     -- "repeat body may stand still"
-    ∷ refuse 6 (still-repeat (i .nodes))
+    ∷ refuse 6 (still-repeat nodes)
     -- "text over 65,535 bytes or not UTF-8"
-    ∷ refuse 7 (unless (good-text (i .text)))
+    ∷ refuse 7 (unless (good-text text))
     -- "depth limit not 1 to 1,024"
-    ∷ refuse 8 (unless (within 1 1024 (i .depth-limit)))
+    ∷ refuse 8 (unless (within 1 1024 depth))
     -- "report under 515 or scratch under 4,864 numbers"
-    ∷ refuse 9 (unless (leb 515 (length (i .report)) && leb 4864 (i .scratch)))
+    ∷ refuse 9 (unless (leb 515 report && leb 4864 scratch))
     ∷ []
+
+abbrev pub tests : Input → List (Option Refusal)
+tests i = tests-on (i .nodes) (i .literals) (i .text) (i .depth-limit) (length (i .report)) (i .scratch)
 
 abbrev pub first-of : List (Option Refusal) → Option Refusal
 first-of [] = none
 first-of (none ∷ ts) = first-of ts
 first-of (some r ∷ ts) = some r
+
+-- The first test that fails.
+abbrev pub refusal-on : List ℤ → (literals text : List ℕ) → (depth-limit report scratch : ℕ) → Option Refusal
+refusal-on nodes literals text depth report scratch = first-of (tests-on nodes literals text depth report scratch)
 
 -- The refusal of an input; none where "a run is started".
 unfoldable pub refusal : Input → Option Refusal

@@ -1,6 +1,5 @@
 -- Each arm is one law of `enter` with no cause set.
 use mathlib.Core.Path.{sym, ap, _∙_}
-use Rattle.checks.specs.Tracker.{limit-of, reached-of, tracker-of}
 use Rattle.checks.specs.Tracker.{by-depth}
 use Rattle.checks.proofs.TrackerLaws.{over-limit, counted-in, uncounted-in}
 use borrow.Author.Needs.{needs}
@@ -20,18 +19,22 @@ by-depth-requires-2 : tie.Need-by-depth-requires-2
 by-depth-requires-2 c κs = search needs
 
 returns : tie.Need-returns
-returns c = over-limit (c .before .before .before .args .room) (c .before .before .before .args .counted) (limit-of (c .before .before .before .args .t .current) (c .before .before .before .args .t .limit)) (reached-of (c .before .before .before .args .t .reached)) (ap reached-of (c .before .before .before .pre)) (c .before .before .if1 .taken) (sym (c .before .exceeded .ensures) ∙ c .if2 .taken)
+returns c =
+    let i = c .before .before .before in
+    over-limit (i .args .room) (i .args .counted) (i .args .t .current) (i .args .t .limit) (i .args .t .reached) (i .pre) (c .before .before .if1 .taken) (sym (c .before .exceeded .ensures) ∙ c .if2 .taken)
 
 returns-2 : tie.Need-returns-2
 returns-2 c =
+    let i = c .before .before .before .before .before in
     c .by-depth .ensures
-    ∙ ap (by-depth (c .before .before .before .before .before .args .room) (tracker-of (c .before .before .before .before .before .args .t))) (c .before .one-more .ensures)
-    ∙ counted-in (c .before .before .before .before .before .args .room) (c .before .before .before .before .before .args .counted) (limit-of (c .before .before .before .before .before .args .t .current) (c .before .before .before .before .before .args .t .limit)) (reached-of (c .before .before .before .before .before .args .t .reached)) (ap reached-of (c .before .before .before .before .before .pre)) (c .before .before .before .before .if1 .taken) (sym (c .before .before .before .exceeded .ensures) ∙ c .before .before .if2 .left)
+    ∙ ap (by-depth (i .args .room) (i .args .t)) (c .before .one-more .ensures)
+    ∙ counted-in (i .args .room) (i .args .counted) (i .args .t .current) (i .args .t .limit) (i .args .t .reached) (i .pre) (c .before .before .before .before .if1 .taken) (sym (c .before .before .before .exceeded .ensures) ∙ c .before .before .if2 .left)
 
 returns-3 : tie.Need-returns-3
 returns-3 c =
+    let i = c .before .before in
     c .by-depth2 .ensures
-    ∙ uncounted-in (c .before .before .args .room) (c .before .before .args .counted) (limit-of (c .before .before .args .t .current) (c .before .before .args .t .limit)) (reached-of (c .before .before .args .t .reached)) (ap reached-of (c .before .before .pre)) (c .before .if1 .left)
+    ∙ uncounted-in (i .args .room) (i .args .counted) (i .args .t .current) (i .args .t .limit) (i .args .t .reached) (i .pre) (c .before .if1 .left)
 
 pub by-limits-spec : {M : Type 1} → statement M
 by-limits-spec =

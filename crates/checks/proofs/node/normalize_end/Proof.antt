@@ -3,7 +3,7 @@ use mathlib.Core.Path.{ap, _∙_}
 use lib.IntN.{ℤ}
 use borrow.Author.Needs.{needs}
 use Rattle.checks.specs.PeekIndex.{index-of}
-use Rattle.reading.specs.Pest.{normalize-index}
+use Rattle.reading.specs.Reading.{index-in}
 use Rattle.checks.proofs.node.normalize_end.Tie as tie
 use Rattle.checks.proofs.FieldLaws.{back}
 use Rattle.checks.proofs.IndexLaws.{end-given, end-none}
@@ -13,7 +13,7 @@ normalize-index-requires : tie.Need-normalize-index-requires
 normalize-index-requires c κs = search needs
 
 returns : tie.Need-returns
-returns c = let i = c .before .before in end-given (i .args .i) _ _ _ (c .before .if1 .taken) (c .normalize-index .ensures ∙ ap (λ (z : ℤ). index-of (normalize-index z (i .args .len))) (back _ (i .fits .i)))
+returns c = let i = c .before .before in end-given (i .args .i) _ _ _ (c .before .if1 .taken) (c .normalize-index .ensures ∙ ap (λ (z : ℤ). index-of (index-in (i .args .len) z)) (back _ (i .fits .i)))
 
 returns-2 : tie.Need-returns-2
 returns-2 c = end-none (c .before .args .i) _ _ (c .if1 .left)

@@ -1,7 +1,7 @@
 -- Either index outside, an empty slice, or the slice matched: one law of StateSteps for each.
 use mathlib.Core.Path.{ap, _∙_}
 use lib.IntN.{ℤ}
-use Rattle.reading.specs.Pest.{normalize-index, normalize-end}
+use Rattle.reading.specs.Reading.{index-in, end-in}
 use Rattle.engine.specs.Fields.{fields}
 use Rattle.checks.specs.PeekIndex.{index-of}
 use Rattle.checks.proofs.FieldLaws.{back}
@@ -29,7 +29,7 @@ returns : tie.Need-returns
 returns c =
     let i = c .before .before .before .before .before .before .before .before in
     start-out (i .args .text .now) (i .args .scratch .now) (i .args .a) (i .args .b) (i .args .c) (fields (i .args .s .now)) _ (c .before .before .before .stack .ensures)
-    _ (c .before .before .normalize-index .ensures ∙ ap (λ (z : ℤ). index-of (normalize-index z (c .before .before .before .stack .result .height))) (back _ (i .fits .a))) (c .enum-told .given .1)
+    _ (c .before .before .normalize-index .ensures ∙ ap (λ (z : ℤ). index-of (index-in (c .before .before .before .stack .result .height) z)) (back _ (i .fits .a))) (c .enum-told .given .1)
 
 normalize-end-requires : tie.Need-normalize-end-requires
 normalize-end-requires c κs = search needs
@@ -47,8 +47,8 @@ returns-2 : tie.Need-returns-2
 returns-2 c =
     let i = c .before .before .before .before .before .before .before .before .before .before .before .before in
     end-out (i .args .text .now) (i .args .scratch .now) (i .args .a) (i .args .b) (i .args .c) (fields (i .args .s .now)) _ (c .before .before .before .before .before .before .before .stack .ensures)
-    _ (c .before .before .before .before .before .before .normalize-index .ensures ∙ ap (λ (z : ℤ). index-of (normalize-index z (c .before .before .before .before .before .before .before .stack .result .height))) (back _ (i .fits .a))) _ (c .before .before .before .before .start .given .1)
-    _ (c .before .before .normalize-end .ensures ∙ ap (λ (z : ℤ). index-of (normalize-end (end-of (i .args .c) z) (c .before .before .before .before .before .before .before .stack .result .height))) (back _ (i .fits .b))) (c .enum-told2 .given .1)
+    _ (c .before .before .before .before .before .before .normalize-index .ensures ∙ ap (λ (z : ℤ). index-of (index-in (c .before .before .before .before .before .before .before .stack .result .height) z)) (back _ (i .fits .a))) _ (c .before .before .before .before .start .given .1)
+    _ (c .before .before .normalize-end .ensures ∙ ap (λ (z : ℤ). index-of (end-in (c .before .before .before .before .before .before .before .stack .result .height) (end-of (i .args .c) z))) (back _ (i .fits .b))) (c .enum-told2 .given .1)
 
 same-length-3 : tie.Need-same-length-3
 same-length-3 c = search needs
@@ -57,8 +57,8 @@ returns-3 : tie.Need-returns-3
 returns-3 c =
     let i = c .before .before .before .before .before .before .before .before .before .before .before .before .before .before in
     slice-empty (i .args .text .now) (i .args .scratch .now) (i .args .a) (i .args .b) (i .args .c) (fields (i .args .s .now)) _ (c .before .before .before .before .before .before .before .before .before .stack .ensures)
-    _ (c .before .before .before .before .before .before .before .before .normalize-index .ensures ∙ ap (λ (z : ℤ). index-of (normalize-index z (c .before .before .before .before .before .before .before .before .before .stack .result .height))) (back _ (i .fits .a))) _ (c .before .before .before .before .before .before .start .given .1)
-    _ (c .before .before .before .before .normalize-end .ensures ∙ ap (λ (z : ℤ). index-of (normalize-end (end-of (i .args .c) z) (c .before .before .before .before .before .before .before .before .before .stack .result .height))) (back _ (i .fits .b))) _ (c .before .before .end .given .1)
+    _ (c .before .before .before .before .before .before .before .before .normalize-index .ensures ∙ ap (λ (z : ℤ). index-of (index-in (c .before .before .before .before .before .before .before .before .before .stack .result .height) z)) (back _ (i .fits .a))) _ (c .before .before .before .before .before .before .start .given .1)
+    _ (c .before .before .before .before .normalize-end .ensures ∙ ap (λ (z : ℤ). index-of (end-in (c .before .before .before .before .before .before .before .before .before .stack .result .height) (end-of (i .args .c) z))) (back _ (i .fits .b))) _ (c .before .before .end .given .1)
     (c .if1 .taken)
 
 position-requires : tie.Need-position-requires
@@ -72,8 +72,8 @@ match-slice-requires c κs =
     let i = c .before .before .before .before .before .before .before .before .before .before .before .before .before .before .before .before .before .before in (
       rw (c .before .before .before .before .before .before .before .before .before .before .before .before .before .stack .ensures) (i .pre .1),
       end-below (i .args .text .now) (i .args .scratch .now) (i .args .a) (i .args .b) (i .args .c) (fields (i .args .s .now)) _ (c .before .before .before .before .before .before .before .before .before .before .before .before .before .stack .ensures)
-          _ (c .before .before .before .before .before .before .before .before .before .before .before .before .normalize-index .ensures ∙ ap (λ (z : ℤ). index-of (normalize-index z (c .before .before .before .before .before .before .before .before .before .before .before .before .before .stack .result .height))) (back _ (i .fits .a))) _ (c .before .before .before .before .before .before .before .before .before .before .start .given .1)
-          _ (c .before .before .before .before .before .before .before .before .normalize-end .ensures ∙ ap (λ (z : ℤ). index-of (normalize-end (end-of (i .args .c) z) (c .before .before .before .before .before .before .before .before .before .before .before .before .before .stack .result .height))) (back _ (i .fits .b))) _ (c .before .before .before .before .before .before .end .given .1),
+          _ (c .before .before .before .before .before .before .before .before .before .before .before .before .normalize-index .ensures ∙ ap (λ (z : ℤ). index-of (index-in (c .before .before .before .before .before .before .before .before .before .before .before .before .before .stack .result .height) z)) (back _ (i .fits .a))) _ (c .before .before .before .before .before .before .before .before .before .before .start .given .1)
+          _ (c .before .before .before .before .before .before .before .before .normalize-end .ensures ∙ ap (λ (z : ℤ). index-of (end-in (c .before .before .before .before .before .before .before .before .before .before .before .before .before .stack .result .height) (end-of (i .args .c) z))) (back _ (i .fits .b))) _ (c .before .before .before .before .before .before .end .given .1),
     )
 
 moved-requires : tie.Need-moved-requires
@@ -86,8 +86,8 @@ returns-4 : tie.Need-returns-4
 returns-4 c =
     let i = c .before .before .before .before .before .before .before .before .before .before .before .before .before .before .before .before .before .before .before .before .before .before in
     slice-moved (i .args .text .now) (i .args .scratch .now) (i .args .a) (i .args .b) (i .args .c) (fields (i .args .s .now)) _ (c .before .before .before .before .before .before .before .before .before .before .before .before .before .before .before .before .before .stack .ensures)
-    _ (c .before .before .before .before .before .before .before .before .before .before .before .before .before .before .before .before .normalize-index .ensures ∙ ap (λ (z : ℤ). index-of (normalize-index z (c .before .before .before .before .before .before .before .before .before .before .before .before .before .before .before .before .before .stack .result .height))) (back _ (i .fits .a))) _ (c .before .before .before .before .before .before .before .before .before .before .before .before .before .before .start .given .1)
-    _ (c .before .before .before .before .before .before .before .before .before .before .before .before .normalize-end .ensures ∙ ap (λ (z : ℤ). index-of (normalize-end (end-of (i .args .c) z) (c .before .before .before .before .before .before .before .before .before .before .before .before .before .before .before .before .before .stack .result .height))) (back _ (i .fits .b))) _ (c .before .before .before .before .before .before .before .before .before .before .end .given .1)
+    _ (c .before .before .before .before .before .before .before .before .before .before .before .before .before .before .before .before .normalize-index .ensures ∙ ap (λ (z : ℤ). index-of (index-in (c .before .before .before .before .before .before .before .before .before .before .before .before .before .before .before .before .before .stack .result .height) z)) (back _ (i .fits .a))) _ (c .before .before .before .before .before .before .before .before .before .before .before .before .before .before .start .given .1)
+    _ (c .before .before .before .before .before .before .before .before .before .before .before .before .normalize-end .ensures ∙ ap (λ (z : ℤ). index-of (end-in (c .before .before .before .before .before .before .before .before .before .before .before .before .before .before .before .before .before .stack .result .height) (end-of (i .args .c) z))) (back _ (i .fits .b))) _ (c .before .before .before .before .before .before .before .before .before .before .end .given .1)
     (c .before .before .before .before .before .before .before .before .if1 .left) _ (c .before .before .before .before .before .is-top-down .ensures) (c .before .before .before .before .before .before .position .ensures) _ (c .before .before .before .match-slice .ensures) _ (c .before .before .moved .result) (c .before .before .moved .ensures)
 
 pub stack-match-peek-slice-spec : {M : Type 1} → statement M

@@ -1,9 +1,9 @@
 -- A refused run, or a started one.
-use mathlib.Core.Path.{refl, sym, _∙_}
+use mathlib.Core.Path.{sym, _∙_}
 use lib.ListN.{length}
 use Rattle.reading.specs.Outcome.{Input}
 use Rattle.reading.specs.Run.{input}
-use Rattle.checks.proofs.RefusalLaws.{not-refused}
+use Rattle.checks.proofs.RefusalLaws.{of-input, not-refused}
 use Rattle.engine.proofs.RunLaws.{refused-is}
 use borrow.Author.Needs.{needs}
 use Rattle.engine.proofs.state.run.Statement.{statement}
@@ -19,10 +19,10 @@ enum-told : tie.Need-enum-told
 enum-told c = search needs
 
 started-requires : tie.Need-started-requires
-started-requires c κs = let i : Input = input (c .before .before .before .before .before .before .before .before .before .before .before .args .nodes .now) (c .before .before .before .before .before .before .before .before .before .before .before .args .literals .now) (c .before .before .before .before .before .before .before .before .before .before .before .args .text .now) (c .before .before .before .before .before .before .before .before .before .before .before .args .depth-limit) (c .before .before .before .before .before .before .before .before .before .before .before .args .call-limit) (c .before .before .before .before .before .before .before .before .before .before .before .args .tokens .now) (c .before .before .before .before .before .before .before .before .before .before .before .args .report .now) (length (c .before .before .before .before .before .before .before .before .before .before .before .args .scratch .now)) in not-refused _ (sym (c .before .before .before .enum-told .given .1) ∙ c .before .before .before .before .before .refusal .ensures i (record { nodes-are = refl; literals-are = refl; text-is = refl; depth-is = refl; report-is = refl; scratch-is = refl }))
+started-requires c κs = let i : Input = input (c .before .before .before .before .before .before .before .before .before .before .before .args .nodes .now) (c .before .before .before .before .before .before .before .before .before .before .before .args .literals .now) (c .before .before .before .before .before .before .before .before .before .before .before .args .text .now) (c .before .before .before .before .before .before .before .before .before .before .before .args .depth-limit) (c .before .before .before .before .before .before .before .before .before .before .before .args .call-limit) (c .before .before .before .before .before .before .before .before .before .before .before .args .tokens .now) (c .before .before .before .before .before .before .before .before .before .before .before .args .report .now) (length (c .before .before .before .before .before .before .before .before .before .before .before .args .scratch .now)) in not-refused _ (of-input i (sym (c .before .before .before .enum-told .given .1) ∙ c .before .before .before .before .before .refusal .ensures))
 
 returns : tie.Need-returns
-returns c = let i : Input = input (c .before .before .before .before .before .before .before .before .before .args .nodes .now) (c .before .before .before .before .before .before .before .before .before .args .literals .now) (c .before .before .before .before .before .before .before .before .before .args .text .now) (c .before .before .before .before .before .before .before .before .before .args .depth-limit) (c .before .before .before .before .before .before .before .before .before .args .call-limit) (c .before .before .before .before .before .before .before .before .before .args .tokens .now) (c .before .before .before .before .before .before .before .before .before .args .report .now) (length (c .before .before .before .before .before .before .before .before .before .args .scratch .now)) in refused-is i _ _ _ (sym (c .before .number .given .1) ∙ c .before .before .before .refusal .ensures i (record { nodes-are = refl; literals-are = refl; text-is = refl; depth-is = refl; report-is = refl; scratch-is = refl }))
+returns c = let i : Input = input (c .before .before .before .before .before .before .before .before .before .args .nodes .now) (c .before .before .before .before .before .before .before .before .before .args .literals .now) (c .before .before .before .before .before .before .before .before .before .args .text .now) (c .before .before .before .before .before .before .before .before .before .args .depth-limit) (c .before .before .before .before .before .before .before .before .before .args .call-limit) (c .before .before .before .before .before .before .before .before .before .args .tokens .now) (c .before .before .before .before .before .before .before .before .before .args .report .now) (length (c .before .before .before .before .before .before .before .before .before .args .scratch .now)) in refused-is i _ _ _ (of-input i (sym (c .before .number .given .1) ∙ c .before .before .before .refusal .ensures))
 
 same-length : tie.Need-same-length
 same-length c = search needs

@@ -5,14 +5,14 @@ use borrow.Author.Needs.{needs}
 use Rattle.engine.proofs.terminals.match_end.Statement.{statement}
 use Rattle.engine.proofs.terminals.match_end.Tie as tie
 
-at-end-requires : tie.Need-at-end-requires
-at-end-requires c κs = search needs
+end-of-input-requires : tie.Need-end-of-input-requires
+end-of-input-requires c κs = search needs
 
 returns : tie.Need-returns
-returns c = if-yes _ _ _ (sym (c .before .at-end .ensures) ∙ c .if1 .taken)
+returns c = if-yes _ _ _ (sym (c .before .end-of-input .ensures) ∙ c .if1 .taken)
 
 returns-2 : tie.Need-returns-2
-returns-2 c = if-no _ _ _ (sym (c .before .at-end .ensures) ∙ c .if1 .left)
+returns-2 c = if-no _ _ _ (sym (c .before .end-of-input .ensures) ∙ c .if1 .left)
 
 pub match-end-spec : {M : Type 1} → statement M
-match-end-spec = tie.close (tie.spec at-end-requires returns returns-2)
+match-end-spec = tie.close (tie.spec end-of-input-requires returns returns-2)
