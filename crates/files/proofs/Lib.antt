@@ -1,1 +1,2 @@
 pub mod SheetRunLaws
+pub mod ListedLaws

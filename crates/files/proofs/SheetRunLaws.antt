@@ -1,37 +1,17 @@
 -- The part of the node area that a good sheet lends to the run holds just its nodes, so the run is one over these. A buffer of 65,536
 -- bytes is no whole number of lines.
-use Prim.Native.Nat.{ℕ, zero, suc, _+_, _*_, _%_}
+use Prim.Native.Nat.{ℕ, _*_}
 use native.Mathlib.Omega.{arith}
 use mathlib.Core.Path.{_≡_, refl, sym, ap, _∙_}
-use mathlib.Core.Bool.{cond}
-use mathlib.Core.List.{List, [], _∷_, _++_}
-use mathlib.Core.Option.{Option, none, some}
+use mathlib.Core.List.{List, _++_}
 use lib.IntN.{ℤ}
 use lib.ListN.{length, take, drop}
 use lib.Seq.{take-append-seam}
 use Rattle.engine.specs.declared.state.Outcome.{Outcome}
 use Rattle.sheet.specs.Area.{over}
-use Rattle.sheet.specs.Sheet.{Node, cut, count, lines, line, reads, first-malformed, four, numbers, Reading, refused, read, reading, outcome, SheetRead}
+use Rattle.sheet.specs.Sheet.{count, lines, numbers, Reading, refused, read, reading, outcome, SheetRead}
 use Rattle.files.specs.SheetRun.{Given, Back, Answered, SheetRun}
-use Rattle.sheet.proofs.SheetLaws.{lined-odd, test-1, Passed, passed}
-
-cut-length : (n : ℕ) (s : List ℕ) → length (cut n s) ≡ n
-unfolding cut
-cut-length zero s = refl
-cut-length (suc n) s = ap suc (cut-length n (drop 41 s))
-
--- four numbers a line, where none is malformed
-numbers-length : (k : ℕ) (ls : List (List ℕ)) → first-malformed (suc k) ls ≡ 0 → length (numbers ls) ≡ length ls * 4
-unfolding first-malformed numbers
-numbers-length k [] e = refl
-numbers-length k (l ∷ ls) e = go (line l) e (numbers-length (suc k) ls)
-  where
-    go :
-        (x : Option Node) → cond (reads x) (first-malformed (suc (suc k)) ls) (suc k) ≡ 0 →
-        (first-malformed (suc (suc k)) ls ≡ 0 → length (numbers ls) ≡ length ls * 4) →
-        length (four x ++ numbers ls) ≡ suc (length ls) * 4
-    go none e h = absurd (omega arith)
-    go (some v) e h = omega (arith, h e)
+use Rattle.sheet.proofs.SheetLaws.{lines-numbers, lined-odd, test-1, Passed, passed}
 
 module _ (s : List ℕ) (a b : List ℤ) (r : Outcome) (g : Given) (w : SheetRead s a b r) where
   pub run-refused : (r .number ≡ 0 → ⊥) → SheetRun s a b g (record { answer = r; tokens = g .tokens; report = g .report; scratch = g .scratch })
@@ -48,7 +28,7 @@ module _ (s : List ℕ) (a b : List ℤ) (r : Outcome) (g : Given) (w : SheetRea
     lent =
         let p = passed s (length a) r (w .answer) z in
         let c : r .count ≡ count s = ap (λ y. y .count) (w .answer) ∙ ap (λ y. (outcome y) .count) (p .all) in
-        let l : length (numbers (lines s)) ≡ r .count * 4 = numbers-length 0 (lines s) (p .good) ∙ rw (cut-length (count s) s, c) in
+        let l : length (numbers (lines s)) ≡ r .count * 4 = lines-numbers s (p .good) ∙ rw c in
         let e : b ≡ numbers (lines s) ++ drop (length (numbers (lines s))) a = w .area ∙ rw (p .all) in
         rw (e, ← l) (take-append-seam (numbers (lines s)) _)
 

@@ -1,5 +1,8 @@
 // Runs planread's work on the examples, and on small sheets that it writes itself, and writes each listing under a heading. Among these are
 // all numbers that planread can print: not 3, 8, 9 and 11, since its areas and limits are always good.
+mod print;
+
+use crate::print::print_files;
 use libc::STDOUT_FILENO;
 
 // A file of a part, so many times over.
@@ -25,7 +28,7 @@ fn heading(name: &[u8]) {
 // The three files as they stand.
 fn list(name: &[u8]) {
     heading(name);
-    files::list_files(b"sheet.txt", b"literals.txt", b"plan.txt");
+    print_files(b"sheet.txt", b"literals.txt", b"plan.txt");
 }
 
 fn put_grammar(sheet: &[u8], literals: &[u8]) {
@@ -43,7 +46,7 @@ fn case(name: &[u8], sheet: &[u8], literals: &[u8], text: &[u8]) {
 fn over(name: &[u8], sheet: &[u8], literals: &[u8], part: &[u8], times: u64) {
     put(b"plan.txt", part, times);
     heading(name);
-    files::list_files(sheet, literals, b"plan.txt");
+    print_files(sheet, literals, b"plan.txt");
 }
 
 // A sheet over a part so many times as the text.
@@ -56,17 +59,17 @@ fn long(name: &[u8], sheet: &[u8], part: &[u8], times: u64) {
 // Copies of the folders of examples/.
 fn examples() {
     heading(b"first");
-    files::list_files(b"first/sheet.txt", b"first/literals.txt", b"first/plan.txt");
+    print_files(b"first/sheet.txt", b"first/literals.txt", b"first/plan.txt");
     heading(b"channels");
-    files::list_files(
+    print_files(
         b"channels/sheet.txt",
         b"channels/literals.txt",
         b"channels/plan.txt",
     );
     heading(b"json");
-    files::list_files(b"json/sheet.txt", b"json/literals.txt", b"json/plan.txt");
+    print_files(b"json/sheet.txt", b"json/literals.txt", b"json/plan.txt");
     heading(b"heredoc");
-    files::list_files(
+    print_files(
         b"heredoc/sheet.txt",
         b"heredoc/literals.txt",
         b"heredoc/plan.txt",
@@ -75,9 +78,9 @@ fn examples() {
 
 fn sheets() {
     heading(b"no files");
-    files::list_files(b"none", b"none", b"none");
+    print_files(b"none", b"none", b"none");
     heading(b"a folder for a sheet");
-    files::list_files(b"first", b"first/literals.txt", b"first/plan.txt");
+    print_files(b"first", b"first/literals.txt", b"first/plan.txt");
     case(b"empty sheet", b"", b"", b"");
     case(
         b"40 bytes a line",

@@ -13,7 +13,7 @@ use borrow.Author.Tests.{lt-ltb, le-ltb, le-leb, lt-leb, eq-eqb, ne-eqb}
 use Rattle.engine.specs.declared.state.Outcome.{Outcome}
 use Rattle.sheet.specs.Area.{over}
 use Rattle.sheet.specs.Numeral.{numeral, justified}
-use Rattle.sheet.specs.Listing.{six, fields, line-text, head-line, token-line, rule-line, later-line, listing-line, whole, Written}
+use Rattle.sheet.specs.Listing.{six, fields, line-text, head-line, token-line, rule-line, later-line, later-count, whole, Written}
 use Rattle.sheet.proofs.NumeralLaws.{numeral-digit, numeral-tens, leads}
 use Rattle.sheet.proofs.SheetLaws.{over-more, over-none, over-length}
 
@@ -236,43 +236,33 @@ written-whole ns before after r h w = rw (whole-line ns before h) w
 pub written-short : (ns area : List ℕ) → length area ≤ length (fields ns) → Written (whole area (line-text ns)) area area 0
 written-short ns area h = rw (whole-none ns area h) (written-none area)
 
--- the listing's lines behind the head
-module _ (o : Outcome) (tokens report : List ℕ) (k : ℕ) where
-  pub later-over : o .count ≤ k → later-line o tokens report k ≡ []
+-- a line behind the head, and how many there are
+module _ (n : ℕ) (tokens report : List ℕ) (k : ℕ) where
+  pub later-token : n ≡ 0 → later-line n tokens report k ≡ line-text (token-line tokens k)
   unfolding later-line
-  later-over h = rw (le-ltb _ _ h)
+  later-token e = rw (eq-eqb _ _ e)
 
-  module _ (h : k < o .count) where
-    pub later-token : o .number ≡ 0 → later-line o tokens report k ≡ line-text (token-line tokens k)
-    unfolding later-line
-    later-token e = rw (lt-ltb _ _ h, eq-eqb _ _ e)
+  pub later-rule : (n ≡ 0 → ⊥) → later-line n tokens report k ≡ line-text (rule-line report k)
+  unfolding later-line
+  later-rule z = rw (ne-eqb _ _ z)
 
-    module _ (z : o .number ≡ 0 → ⊥) where
-      pub later-rule : o .number ≡ 10 → later-line o tokens report k ≡ line-text (rule-line report k)
-      unfolding later-line
-      later-rule e = rw (lt-ltb _ _ h, ne-eqb _ _ z, eq-eqb _ _ e)
+module _ (o : Outcome) where
+  pub count-tokens : o .number ≡ 0 → o .count ≡ later-count o
+  unfolding later-count
+  count-tokens e = rw (eq-eqb _ _ e)
 
-      pub later-none : (o .number ≡ 10 → ⊥) → later-line o tokens report k ≡ []
-      unfolding later-line
-      later-none e = rw (lt-ltb _ _ h, ne-eqb _ _ z, ne-eqb _ _ e)
+  module _ (z : o .number ≡ 0 → ⊥) where
+    pub count-rules : o .number ≡ 10 → o .count ≡ later-count o
+    unfolding later-count
+    count-rules e = rw (ne-eqb _ _ z, eq-eqb _ _ e)
 
-  pub listing-head : k ≡ 0 → listing-line o tokens report k ≡ line-text (head-line o)
-  listing-head e = rw e
-
-pub whole-nil : (area : List ℕ) → whole area [] ≡ []
-unfolding whole
-whole-nil area = go (leb 0 (length area))
-  where
-    go : (b : Bool) → _≡_ {A = List ℕ} (cond b [] []) []
-    go true = refl
-    go false = refl
+    pub count-none : (o .number ≡ 10 → ⊥) → 0 ≡ later-count o
+    unfolding later-count
+    count-none y = rw (ne-eqb _ _ z, ne-eqb _ _ y)
 
 -- another name for the text
 pub renamed : (t u before after : List ℕ) (r : ℕ) → t ≡ u → Written (whole before u) before after r → Written (whole before t) before after r
 renamed t u before after r e w = rw e w
-
-pub no-text : (t area : List ℕ) → t ≡ [] → Written (whole area t) area area 0
-no-text t area e = rw (e, whole-nil area) (written-none area)
 
 pub token-is :
     (t : List ℕ) (k a b c d e : ℕ) → a ≡ getD t (k * 5) 0 → b ≡ getD t (k * 5 + 1) 0 → c ≡ getD t (k * 5 + 2) 0 →
@@ -281,10 +271,6 @@ token-is t k a b c d e ea eb ec ed ee = rw (ea, eb, ec, ed, ee)
 
 pub rule-is : (p : List ℕ) (k a b : ℕ) → a ≡ cond (ltb k (getD p 1 0)) 1 2 → b ≡ getD p (k + 3) 0 → rule-line p k ≡ a ∷ b ∷ []
 rule-is p k a b ea eb = rw (ea, eb)
-
-pub listing-later : (o : Outcome) (tokens report : List ℕ) (k : ℕ) → (k ≡ 0 → ⊥) → listing-line o tokens report k ≡ later-line o tokens report (k - 1)
-listing-later o tokens report zero z = absurd (z refl)
-listing-later o tokens report (suc k) z = let e : suc k - 1 ≡ k = omega arith in rw e
 
 pub sign-positive : (k p q : ℕ) → p ≡ q → k < p → _≡_ {A = ℕ} 1 (cond (ltb k q) 1 2)
 sign-positive k p q e h = rw (← e, lt-ltb k p h)

@@ -4,7 +4,7 @@ use Prim.Native.Nat.{ℕ, zero, suc, _+_, _-_, _*_, _%_, _≤_, _<_}
 use native.Mathlib.Omega.{arith}
 use native.Mathlib.Numerals.{add-one}
 use mathlib.Core.Path.{_≡_, refl, sym, ap, _∙_}
-use mathlib.Core.Bool.{Bool, true, false, _&&_}
+use mathlib.Core.Bool.{Bool, true, false, cond, _&&_}
 use mathlib.Core.List.{List, [], _∷_, _++_, append-assoc, append-nil}
 use mathlib.Core.Option.{Option, none, some, Option·some-injective}
 use lib.Dec.{ltb, leb, eqb}
@@ -18,7 +18,7 @@ use borrow.Author.Tests.{ltb-true, ltb-false, leb-true, eqb-true, eqb-false, lt-
 use Rattle.engine.specs.declared.state.Outcome.{Outcome}
 use Rattle.sheet.specs.Area.{over}
 use Rattle.sheet.specs.Field.{and-then, field}
-use Rattle.sheet.specs.Sheet.{cut, count, lines, ended, lined, Node, columns, line, first-malformed, four, numbers, Reading, refused, read, reading, outcome, area-after, SheetRead}
+use Rattle.sheet.specs.Sheet.{cut, count, lines, ended, lined, Node, columns, line, reads, first-malformed, four, numbers, Reading, refused, read, reading, outcome, area-after, SheetRead}
 use Rattle.sheet.specs.Answers.{field-of, line-of}
 use Rattle.sheet.proofs.FieldLaws.{then-some, field-back}
 use Rattle.sheet.specs.declared.field.Field.the-variants.{Number, Malformed}
@@ -81,6 +81,27 @@ numbers-more zero s = append-nil _
 numbers-more (suc i) s =
     let d : 41 + i * 41 ≡ suc i * 41 = omega arith in
     ap (λ x. four (line (take 41 s)) ++ x) (numbers-more i (drop 41 s)) ∙ rw (drop-drop (i * 41) 41 s, d, append-assoc)
+
+-- four numbers a line, where none is malformed
+cut-length : (n : ℕ) (s : List ℕ) → length (cut n s) ≡ n
+unfolding cut
+cut-length zero s = refl
+cut-length (suc n) s = ap suc (cut-length n (drop 41 s))
+
+numbers-length : (k : ℕ) (ls : List (List ℕ)) → first-malformed (suc k) ls ≡ 0 → length (numbers ls) ≡ length ls * 4
+unfolding first-malformed numbers
+numbers-length k [] e = refl
+numbers-length k (l ∷ ls) e = go (line l) e (numbers-length (suc k) ls)
+  where
+    go :
+        (x : Option Node) → cond (reads x) (first-malformed (suc (suc k)) ls) (suc k) ≡ 0 →
+        (first-malformed (suc (suc k)) ls ≡ 0 → length (numbers ls) ≡ length ls * 4) →
+        length (four x ++ numbers ls) ≡ suc (length ls) * 4
+    go none e h = absurd (omega arith)
+    go (some v) e h = omega (arith, h e)
+
+pub lines-numbers : (s : List ℕ) → first-malformed 1 (lines s) ≡ 0 → length (numbers (lines s)) ≡ count s * 4
+lines-numbers s z = numbers-length 0 (lines s) z ∙ ap (λ n. n * 4) (cut-length (count s) s)
 
 -- writing behind what is written already
 pub over-more :

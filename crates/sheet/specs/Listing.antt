@@ -1,7 +1,7 @@
 -- What planread prints. Document 01, "Sheet and listing": "It prints lines of fields six wide".
 use Prim.Native.Nat.{ℕ, zero, suc, _+_, _*_, _≤_}
 use mathlib.Core.Path.{_≡_}
-use mathlib.Core.Bool.{cond}
+use mathlib.Core.Bool.{cond, _||_}
 use mathlib.Core.List.{List, [], _∷_, _++_}
 use lib.Dec.{ltb, leb, eqb}
 use lib.ListN.{length, getD, take}
@@ -33,17 +33,22 @@ token-line t k =
 abbrev pub rule-line : (report : List ℕ) → (index : ℕ) → List ℕ
 rule-line p k = cond (ltb k (getD p 1 0)) 1 2 ∷ getD p (k + 3) 0 ∷ []
 
--- "after 0, token index and its five numbers; after 10, 1 (positive) or 2 (negative) and a rule": as many lines as the count says.
-unfoldable pub later-line : Outcome → (tokens report : List ℕ) → ℕ → List ℕ
-later-line o tokens report k =
-    cond (ltb k (o .count))
-    (cond (eqb (o .number) 0) (line-text (token-line tokens k)) (cond (eqb (o .number) 10) (line-text (rule-line report k)) []))
-    []
+-- "after 0, token index and its five numbers; after 10, 1 (positive) or 2 (negative) and a rule": line k behind the head.
+unfoldable pub later-line : (number : ℕ) → (tokens report : List ℕ) → ℕ → List ℕ
+later-line n tokens report k = line-text (cond (eqb n 0) (token-line tokens k) (rule-line report k))
 
--- Line k of the listing, counted from 0; no bytes where it has no such line.
-abbrev pub listing-line : Outcome → (tokens report : List ℕ) → ℕ → List ℕ
-listing-line o tokens report zero = line-text (head-line o)
-listing-line o tokens report (suc k) = later-line o tokens report k
+-- How many lines stand behind the head: "after 0 .. after 10", as many as the count says, and none after any other number.
+unfoldable pub later-count : Outcome → ℕ
+later-count o = cond (eqb (o .number) 0 || eqb (o .number) 10) (o .count) 0
+
+-- The head and the first k lines behind it.
+unfoldable pub first-lines : Outcome → (tokens report : List ℕ) → ℕ → List ℕ
+first-lines o tokens report zero = line-text (head-line o)
+first-lines o tokens report (suc k) = first-lines o tokens report k ++ later-line (o .number) tokens report k
+
+-- "It prints lines": the whole listing.
+unfoldable pub listing : Outcome → (tokens report : List ℕ) → List ℕ
+listing o tokens report = first-lines o tokens report (later-count o)
 
 -- All of a text, or nothing where the area is shorter.
 unfoldable pub whole : (area text : List ℕ) → List ℕ
@@ -56,3 +61,8 @@ pub record Written (text before after : List ℕ) (r : ℕ) : Type 0 where
   pub area : after ≡ over text before
   pub within : r ≤ length after
   pub part : r ≡ length (take r after)
+
+-- What `write_listing` promises: the whole listing, or nothing where the area is too short for it. No line has more than 61 bytes.
+pub record ListingWritten (o : Outcome) (tokens report before after : List ℕ) (r : ℕ) : Type 0 where
+  pub written : Written (whole before (listing o tokens report)) before after r
+  pub most : length (listing o tokens report) ≤ 61 * (o .count + 1)

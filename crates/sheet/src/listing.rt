@@ -1,15 +1,15 @@
-// The lines that planread prints, as bytes at the start of a lent area. A line has at most 61 bytes: six fields of ten digits.
+// What planread prints, as bytes at the start of a lent area. A line has at most 61 bytes: six fields of ten digits and its end.
 use crate::numeral::digits;
 use crate::numeral::put_numeral;
 use crate::numeral::put_spaces;
 use engine::state::Outcome;
 ghost use mathlib.Core.Path.{_≡_};
 ghost use mathlib.Core.Bool.{cond};
-ghost use Prim.Native.Nat.{_+_, _-_, _≤_, _<_};
+ghost use Prim.Native.Nat.{_+_, _-_, _*_, _≤_, _<_};
 ghost use lib.Dec.{ltb};
 ghost use lib.ListN.{length, getD};
 ghost use lib.Seq.{sets};
-ghost use Rattle.sheet.specs.Listing.{six, fields, line-text, head-line, token-line, rule-line, later-line, listing-line, whole, Written};
+ghost use Rattle.sheet.specs.Listing.{six, fields, line-text, head-line, token-line, rule-line, later-line, later-count, listing, whole, Written, ListingWritten};
 
 // How many spaces stand before a numeral of k digits.
 fn spaces_before(k: usize) -> usize
@@ -121,35 +121,68 @@ fn write_rule(report: &[u32], k: u32, out: &mut [u8]) -> usize
     write_line(&numbers, out)
 }
 
-// A line behind the head.
+// Line k behind the head.
 fn write_later(o: Outcome, tokens: &[u32], report: &[u32], k: u32, out: &mut [u8]) -> usize
-    ensures { λ r. ⌜ Written (whole (now (out .entry)) (later-line o (now (tokens .entry)) (now (report .entry)) k)) (now (out .entry)) (now (out .exit)) r ⌝ }
+    ensures { λ r. ⌜ Written (whole (now (out .entry)) (later-line (o .number) (now (tokens .entry)) (now (report .entry)) k)) (now (out .entry)) (now (out .exit)) r ⌝ }
 {
-    if o.count <= k {
-        return 0;
-    }
     if o.number == 0 {
         return write_token(tokens, k, out);
     }
+    write_rule(report, k, out)
+}
+
+// How many lines stand behind the head.
+fn later_count(o: Outcome) -> u32
+    ensures { λ r. ⌜ r ≡ later-count o ⌝ }
+{
+    if o.number == 0 {
+        return o.count;
+    }
     if o.number == 10 {
-        return write_rule(report, k, out);
+        return o.count;
     }
     0
 }
 
-// Line k of the listing, counted from 0, at the start of the area; answers how many bytes that are. 0, and the area as it was, where the
-// listing has no such line or the area is too short for it.
-pub fn write_listing_line(
-    o: Outcome,
-    tokens: &[u32],
-    report: &[u32],
-    k: u32,
-    out: &mut [u8],
-) -> usize
-    ensures { λ r. ⌜ Written (whole (now (out .entry)) (listing-line o (now (tokens .entry)) (now (report .entry)) k)) (now (out .entry)) (now (out .exit)) r ⌝ }
+// How many bytes the listing has: each line is tried on an area that holds any line.
+fn listing_size(o: Outcome, tokens: &[u32], report: &[u32]) -> usize
+    ensures { λ r. ⌜ (r ≡ length (listing o (now (tokens .entry)) (now (report .entry)))) × (r ≤ 61 * (o .count + 1)) ⌝ }
 {
-    if k == 0 {
-        return write_head(o, out);
+    let count = later_count(o);
+    let mut line = [0u8; 61];
+    let mut size = write_head(o, &mut line);
+    let mut k = 0;
+    while k < count {
+        let n = write_later(o, tokens, report, k, &mut line);
+        size += n;
+        k += 1;
     }
-    write_later(o, tokens, report, k - 1, out)
+    size
+}
+
+// The listing, in an area that is long enough for it.
+fn put_listing(o: Outcome, tokens: &[u32], report: &[u32], out: &mut [u8]) -> usize
+    requires { ⌜ length (listing o (now tokens) (now report)) ≤ length (now out) ⌝ }
+    ensures { λ r. ⌜ Written (listing o (now (tokens .entry)) (now (report .entry))) (now (out .entry)) (now (out .exit)) r ⌝ }
+{
+    let count = later_count(o);
+    let mut at = write_head(o, out);
+    let mut k = 0;
+    while k < count {
+        let n = write_later(o, tokens, report, k, &mut out[at..]);
+        at += n;
+        k += 1;
+    }
+    at
+}
+
+// The listing at the start of the area; answers how many bytes that are. 0, and the area as it was, where the area is too short for it.
+pub fn write_listing(o: Outcome, tokens: &[u32], report: &[u32], out: &mut [u8]) -> usize
+    ensures { λ r. ⌜ ListingWritten o (now (tokens .entry)) (now (report .entry)) (now (out .entry)) (now (out .exit)) r ⌝ }
+{
+    let size = listing_size(o, tokens, report);
+    if out.len() < size {
+        return 0;
+    }
+    put_listing(o, tokens, report, out)
 }

@@ -2,7 +2,7 @@
 // listings, and run_sheet with the limits and areas that planread never has.
 use engine::state::Outcome;
 use files::run_sheet::run_sheet;
-use sheet::listing::write_listing_line;
+use sheet::listing::write_listing;
 use sheet::sheet::read_sheet;
 
 const OUT: i32 = 1;
@@ -232,30 +232,22 @@ fn order() {
     );
 }
 
-fn put_line(o: Outcome, tokens: &[u32], report: &[u32], k: u32, out: &mut [u8]) {
-    let n = write_listing_line(o, tokens, report, k, out);
-    io::write_all(OUT, &out[..n]);
-}
-
 fn put_name(name: &[u8]) {
     io::write_all(OUT, name);
     io::write_all(OUT, b":\n");
 }
 
-// A listing, line by line, as planread prints it: the head and as many lines as the count says.
+// A listing, as far as the area holds it whole.
 fn list(name: &[u8], o: Outcome, tokens: &[u32], report: &[u32], out: &mut [u8]) {
     put_name(name);
-    let last = o.count as u64;
-    let mut k: u64 = 0;
-    while k <= last {
-        put_line(o, tokens, report, k as u32, out);
-        k += 1;
-    }
+    let n = write_listing(o, tokens, report, out);
+    io::write_all(OUT, &out[..n]);
 }
 
-// Document 01's example, a report of two positives and a negative, a refusal, and numbers of more than six digits.
+// Document 01's example in an area of just its size, a report of two positives and a negative, a stop, numbers of more than six digits after
+// a number that lists no lines, and the example in an area that is one byte too short.
 fn listings() {
-    let mut out = [0u8; 61];
+    let mut out = [0u8; 93];
     let none = [0u32; 1];
     let tokens = [1u32, 1, 0, 0, 0, 2, 0, 1, 7, 3];
     let parsed = Outcome {
@@ -282,9 +274,8 @@ fn listings() {
         place: 1000000,
         count: 4294967295,
     };
-    put_name(b"wide");
-    put_line(large, &tokens, &report, 0, &mut out);
-    let mut short = [0u8; 18];
+    list(b"wide", large, &tokens, &report, &mut out);
+    let mut short = [0u8; 92];
     list(b"area too short", parsed, &tokens, &report, &mut short);
 }
 

@@ -1,0 +1,1 @@
+../../planread/src/print.rt
