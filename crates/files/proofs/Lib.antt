@@ -1,2 +1,3 @@
 pub mod SheetRunLaws
+pub mod Demand1
 pub mod ListedLaws

@@ -1,2 +1,3 @@
 pub mod SheetRun
+pub mod Demand1
 pub mod Listed

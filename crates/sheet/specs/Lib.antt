@@ -4,3 +4,4 @@ pub mod Area
 pub mod Sheet
 pub mod Listing
 pub mod Answers
+pub mod Demand1
