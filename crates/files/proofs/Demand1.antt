@@ -1,5 +1,5 @@
--- Demand 1 of a sheet's grammar over a text: `SheetRun` says which of the two it is, the sheet's refusal or the run, and the run has demand 1
--- of its own.
+-- Demand 1 of a sheet's grammar over a text: `SheetRun` says which of the two it is, the sheet's refusal or the run, and the run has
+-- demand 1 of its own.
 use Prim.Native.Nat.{ℕ, _*_, _≤_}
 use native.Mathlib.Omega.{arith}
 use mathlib.Core.Path.{_≡_, sym, ap, _∙_, subst}

@@ -1,4 +1,5 @@
--- Demand 1, in the customer's words, of a sheet's grammar over a text: refused by 1 to 3 or by 4 to 9 with the areas left, or run to an end.
+-- Demand 1, in the customer's words, of a sheet's grammar over a text: refused by 1 to 3 or by 4 to 9 with the areas left, or run to an
+-- end.
 use Prim.Native.Nat.{ℕ, _≤_}
 use mathlib.Core.Path.{_≡_}
 use mathlib.Core.List.{List}
@@ -27,7 +28,9 @@ pub record SheetAccepted (ns before after : List ℤ) (g : Given) (b : Back) : T
   -- "and writes just their nodes"
   pub nodes : after ≡ over ns before
   -- One of 4 to 9, and tokens, report and scratch as they were.
-  pub refused : (r : Refusal) → refusal (handed ns g) ≡ some r → Refused (handed ns g) r (outcome-of (b .answer) (b .tokens) (b .report)) (g .scratch) (b .scratch)
+  pub refused :
+      (r : Refusal) → refusal (handed ns g) ≡ some r →
+      Refused (handed ns g) r (outcome-of (b .answer) (b .tokens) (b .report)) (g .scratch) (b .scratch)
   -- "Every other sheet, text and limit is accepted and run to an end": 0, or 10 to 16.
   pub accepted : refusal (handed ns g) ≡ none → Ended (b .answer .number)
 

@@ -24,7 +24,8 @@ pub record Demand1 (sheet : List ℕ) (before after : List ℤ) (r : Outcome) : 
   -- "sheet empty, broken line, over 4,096 lines": "0, 0"
   pub broken : lined sheet ≡ false → Refused 1 0 before after r
   -- "malformed field": "first line, 0"
-  pub malformed : lined sheet ≡ true → (first-malformed 1 (lines sheet) ≡ 0 → ⊥) → Refused 2 (first-malformed 1 (lines sheet)) before after r
+  pub malformed :
+      lined sheet ≡ true → (first-malformed 1 (lines sheet) ≡ 0 → ⊥) → Refused 2 (first-malformed 1 (lines sheet)) before after r
   -- "node area short": "0, 0"
   pub short :
       lined sheet ≡ true → first-malformed 1 (lines sheet) ≡ 0 → length before < count sheet * 4 → Refused 3 0 before after r

@@ -148,11 +148,11 @@ fn later_count(o: Outcome) -> u32
 fn listing_size(o: Outcome, tokens: &[u32], report: &[u32]) -> usize
     ensures { λ r. ⌜ (r ≡ length (listing o (now (tokens .entry)) (now (report .entry)))) × (r ≤ 61 * (o .count + 1)) ⌝ }
 {
-    let count = later_count(o);
+    let lines = later_count(o);
     let mut line = [0u8; 61];
     let mut size = write_head(o, &mut line);
     let mut k = 0;
-    while k < count {
+    while k < lines {
         let n = write_later(o, tokens, report, k, &mut line);
         size += n;
         k += 1;

@@ -9,10 +9,10 @@ use Rattle.sheet.proofs.listing.listing_size.Statement.{statement}
 use Rattle.sheet.proofs.listing.listing_size.Tie as tie
 
 abbrev Inv-loop : tie.InvT-loop
-Inv-loop o tokens report count line₀ size₀ k₀ line size k = (count ≡ later-count o) × Sized o tokens report line size k
+Inv-loop o tokens report lines line₀ size₀ k₀ line size k = (lines ≡ later-count o) × Sized o tokens report line size k
 
 abbrev μ-loop : tie.MeasureT-loop
-μ-loop o tokens report count line₀ size₀ k₀ line size k = count - k
+μ-loop o tokens report lines line₀ size₀ k₀ line size k = lines - k
 
 later-count-requires : tie.Need-later-count-requires Inv-loop μ-loop
 later-count-requires c κs = search needs
