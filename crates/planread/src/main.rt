@@ -1,8 +1,8 @@
 // planread: reads sheet.txt, literals.txt and plan.txt of the folder that it is run in, and writes the listing.
 mod print;
 
-use crate::print::print_files;
+use crate::print::print_folder;
 
 fn main() {
-    print_files(b"sheet.txt", b"literals.txt", b"plan.txt");
+    print_folder();
 }

@@ -36,3 +36,8 @@ pub(crate) fn print_files(sheet_name: &[u8], literals_name: &[u8], text_name: &[
         );
     }
 }
+
+// The three files of the folder that the program is run in.
+pub(crate) fn print_folder() {
+    print_files(b"sheet.txt", b"literals.txt", b"plan.txt");
+}

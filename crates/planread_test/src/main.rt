@@ -3,6 +3,7 @@
 mod print;
 
 use crate::print::print_files;
+use crate::print::print_folder;
 use libc::STDOUT_FILENO;
 
 // A file of a part, so many times over.
@@ -28,7 +29,7 @@ fn heading(name: &[u8]) {
 // The three files as they stand.
 fn list(name: &[u8]) {
     heading(name);
-    print_files(b"sheet.txt", b"literals.txt", b"plan.txt");
+    print_folder();
 }
 
 fn put_grammar(sheet: &[u8], literals: &[u8]) {
