@@ -66,7 +66,7 @@ fn run_by_position<'a>(
 }
 
 // A run over the literals `abc`: the outcome, the tokens area, and the first numbers of the report.
-fn list(name: &[u8], nodes: &[i32], text: &[u8], depth_limit: u32, call_limit: u32) {
+fn list(name: &[u8], nodes: &[i32], text: &[u8], depth: u32, calls: u32) {
     let mut tokens = [9u32; 22];
     let mut report = [9u32; 516];
     let mut scratch = [9u32; 4864];
@@ -74,8 +74,8 @@ fn list(name: &[u8], nodes: &[i32], text: &[u8], depth_limit: u32, call_limit: u
         nodes,
         b"abc",
         text,
-        depth_limit,
-        call_limit,
+        depth,
+        calls,
         &mut tokens,
         &mut report,
         &mut scratch,
