@@ -104,8 +104,10 @@ output() {
     try "a long listing" "$root/planread" "$work/long" && ends 0 && is_silent
     [ "$(wc -l <"$work/out")" -eq 3277 ] || fail "it should print 3,277 lines"
     for folder in "$first" "$work/long"; do
-        try "a full disk" bash -c '"$0" "$1" >/dev/full' "$root/planread" "$folder"
-        ends 1 && says "the listing could not be written whole"
+        if [ -c /dev/full ]; then
+            try "a full disk" bash -c '"$0" "$1" >/dev/full' "$root/planread" "$folder"
+            ends 1 && says "the listing could not be written whole"
+        fi
         try "a closed output" bash -c '"$0" "$1" >&-' "$root/planread" "$folder"
         ends 1 && says "the listing could not be written whole"
         # the reader is gone before a byte is written

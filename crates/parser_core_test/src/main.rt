@@ -51,7 +51,7 @@ fn run_by_position<'a>(
     report: &mut [u32],
     scratch: &mut [u32],
 ) -> ParserCoreOutcome
-    ensures { λ r. ⌜ Ran (input (now (nodes .entry)) (now (literals .entry)) (now (text .entry)) «depth_limit» «call_limit» (now (tokens .entry)) (now (report .entry)) (length (now (scratch .entry)))) (outcome-of (returned r) (now (tokens .exit)) (now (report .exit))) ⌝ }
+    ensures { λ r. ⌜ Ran (input (now (nodes .entry)) (now (literals .entry)) (now (text .entry)) «depth_limit» «call_limit» (now (tokens .entry)) (now (report .entry)) (length (now (scratch .entry)))) (outcome-of (returned r) (now (tokens .exit)) (now (report .exit))) (now (scratch .entry)) (now (scratch .exit)) ⌝ }
 {
     parser_core_run(
         nodes,
