@@ -53,4 +53,5 @@ planread_dies() { ! planread_runs 8192 "$1"; }
 plain=$((($(kb_for 1024 0) - $(kb_for 24 0)) * 1024 / 1000))
 nested=$((($(kb_for 1024 400) - $(kb_for 24 400)) * 1024 / 1000))
 echo "an open call takes $plain bytes, a nest in it $(((nested - plain) / 400)) more"
+echo "2,044 nests, all that a sheet has room for beside the rest, take $(kb_for 1024 2044) KB at depth 1,024"
 echo "at depth 1,024 on 8 MB: a C program runs $(($(least 0 400 c_dies) - 1)) nests in each call, planread itself $(($(least 0 400 planread_dies) - 1))"
