@@ -3,4 +3,4 @@ use Rattle.engine.specs.declared.state.Outcome.{Outcome}
 use Rattle.parser_core.specs.declared.ParserCoreOutcome as Exported
 
 abbrev pub returned : Exported.ParserCoreOutcome → Outcome
-returned o = record { number = o .number; place = o .place; count = o .count }
+returned o = record { number = o .0; place = o .1; count = o .2 }

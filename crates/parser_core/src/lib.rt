@@ -10,22 +10,15 @@ ghost use Rattle.reading.specs.Run.{input, Ran};
 ghost use Rattle.sheet.specs.Sheet.{SheetRead};
 ghost use Rattle.parser_core.specs.Returned.{returned};
 
-// The engine's `Outcome`, laid out as C does.
+// The engine's `Outcome`, laid out as C does: number, place, count. C goes by position, so the fields have positions and no names:
+// `returned` says which is which.
 #[repr(C)]
-pub struct ParserCoreOutcome {
-    pub number: u32,
-    pub place: u32,
-    pub count: u32,
-}
+pub struct ParserCoreOutcome(pub u32, pub u32, pub u32);
 
 fn handed_back(o: Outcome) -> ParserCoreOutcome
     ensures { λ r. ⌜ returned r ≡ o ⌝ }
 {
-    ParserCoreOutcome {
-        number: o.number,
-        place: o.place,
-        count: o.count,
-    }
+    ParserCoreOutcome(o.number, o.place, o.count)
 }
 
 #[no_mangle]

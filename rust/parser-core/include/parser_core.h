@@ -19,14 +19,17 @@ enum {
     PARSER_CORE_SCRATCH = 4864  /* the fewest numbers of a scratch area */
 };
 
+/* The fields of ParserCoreOutcome (crates/parser_core), which has them by position. */
 typedef struct {
     uint32_t number;
     uint32_t place;
     uint32_t count;
 } parser_core_outcome;
 
-/* Runs the grammar of `nodes`, four numbers a line, on `text`. It recurses: a level of
- * depth takes some 470 bytes of stack, more in a grammar that nests kinds 6 and 7 (rust/README.md). */
+/* Runs the grammar of `nodes`, four numbers a line, on `text`. A token takes five numbers; `tokens`
+ * needs room for the most that are held at once, which can be more than the count returned (14 else).
+ * It recurses: a level of depth takes less than 500 bytes of stack, and as many again for each nest
+ * of kinds 6 and 7 (README.md, "Native stack"). */
 parser_core_outcome parser_core_run(
     const int32_t *nodes, size_t nodes_len,
     const uint8_t *literals, size_t literals_len,

@@ -65,6 +65,9 @@ extern "C" {
 
 /// Runs the grammar of `nodes`, four numbers a line, on `text`.
 ///
+/// A token takes five numbers of `tokens`. It needs room for the most tokens that are held at once,
+/// which can be more than the count that is returned: 14 else.
+///
 /// The run recurses natively: see [`on_large_stack`].
 #[allow(clippy::too_many_arguments)]
 pub fn run(
@@ -116,9 +119,9 @@ pub fn read_sheet(sheet: &[u8], nodes: &mut [i32]) -> Outcome {
 
 /// Address space for the deepest run, 2 GiB; pages are taken when they are touched.
 ///
-/// Measured: a level of depth takes 467 bytes, and as many again for each line of kind 6 or 7
-/// on the right of one that is itself on the left of another, since those open no call that the
-/// depth limit would bound. 2,044 such pairs of lines in each of 1,024 levels need 0.97 GB.
+/// Measured: a level of depth takes less than 500 bytes, and as many again for each line of kind 6
+/// or 7 on the right of one that is itself on the left of another, since those open no call that the
+/// depth limit would bound. 2,044 such pairs of lines in each of 1,024 levels need less than 1 GB.
 pub const STACK: usize = 1 << 31;
 
 /// Does `work` on a thread of its own with a stack of [`STACK`] bytes, and passes its panic on.

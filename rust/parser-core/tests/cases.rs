@@ -1,4 +1,4 @@
-//! The wrapper passes each slice with its own length: every refusal by number, and both areas.
+//! The wrapper passes each slice with its own length: every refusal by number, and the areas.
 
 use parser_core::{on_large_stack, read_sheet, run, Outcome, DEEPEST, REPORT, SCRATCH};
 
@@ -18,34 +18,37 @@ fn of(number: u32, place: u32, count: u32) -> Outcome {
     Outcome { number, place, count }
 }
 
+/// What was returned, and tokens, report and scratch afterwards.
+type Answer = (Outcome, [Vec<u32>; 3]);
+
 fn answer(
     nodes: &[i32],
     literals: &[u8],
     text: &[u8],
     depth_limit: u32,
     lengths: Lengths,
-) -> (Outcome, Vec<u32>, Vec<u32>) {
+) -> Answer {
     let [mut tokens, mut report, mut scratch] =
         [lengths.tokens, lengths.report, lengths.scratch].map(|length| vec![FILL; length]);
     let outcome =
         run(nodes, literals, text, depth_limit, 0, &mut tokens, &mut report, &mut scratch);
-    (outcome, tokens, report)
+    (outcome, [tokens, report, scratch])
 }
 
-/// The areas of a refused run are as they were.
-fn refused(outcome: Outcome, given: (Outcome, Vec<u32>, Vec<u32>)) {
+/// All areas of a refused run are as they were.
+fn refused(outcome: Outcome, given: Answer) {
     assert_eq!(given.0, outcome);
-    assert!(given.1.iter().chain(&given.2).all(|number| *number == FILL));
+    assert!(given.1.iter().flatten().all(|number| *number == FILL));
 }
 
 #[test]
 fn m1_and_m2() {
-    let (outcome, tokens, report) = answer(&M1, b"abc", b"a", DEEPEST, ENOUGH);
+    let (outcome, [tokens, report, _]) = answer(&M1, b"abc", b"a", DEEPEST, ENOUGH);
     assert_eq!(outcome, of(0, 0, 2));
     assert_eq!(tokens, [1, 1, 0, 0, 0, 2, 0, 1, 7, 3, 0, 0]);
     assert_eq!(report, [0; REPORT + 1]);
 
-    let (outcome, tokens, report) = answer(&M1, b"abc", b"b", DEEPEST, ENOUGH);
+    let (outcome, [tokens, report, _]) = answer(&M1, b"abc", b"b", DEEPEST, ENOUGH);
     assert_eq!(outcome, of(10, 0, 1));
     assert_eq!(tokens, [0; 12]);
     assert_eq!(report[..4], [0, 1, 0, 7]);
@@ -70,10 +73,21 @@ fn refusals_leave_the_areas() {
 #[test]
 fn no_room_for_a_token_is_14() {
     let tokens = Lengths { tokens: 9, ..ENOUGH };
-    let (outcome, tokens, report) = answer(&M1, b"abc", b"a", DEEPEST, tokens);
+    let (outcome, [tokens, report, _]) = answer(&M1, b"abc", b"a", DEEPEST, tokens);
     assert_eq!(outcome, of(14, 2, 0));
     assert_eq!(tokens, [0; 9]);
     assert_eq!(report, [0; REPORT + 1]);
+}
+
+/// An optional rule 7 over the end of the text, which fails on `a`: no token is left, but the rule's
+/// Start is held while its body is tried.
+#[test]
+fn a_rule_that_fails_needs_room_for_its_start() {
+    let nodes = [5, 0, 0, 0, 8, 7, 1, 0, 11, 2, 0, 0];
+    for (tokens, outcome) in [(4, of(14, 2, 0)), (5, of(0, 0, 0))] {
+        let lengths = Lengths { tokens, ..ENOUGH };
+        assert_eq!(answer(&nodes, b"", b"a", DEEPEST, lengths).0, outcome);
+    }
 }
 
 #[test]
@@ -110,6 +124,6 @@ fn nested(pairs: i32) -> Vec<i32> {
 fn a_deep_nest_fits_the_large_stack() {
     let nodes = nested(200);
     let lengths = Lengths { tokens: 5 * 1_024, ..ENOUGH };
-    let (outcome, _, _) = on_large_stack(|| answer(&nodes, b"", b"", DEEPEST, lengths));
+    let (outcome, _) = on_large_stack(|| answer(&nodes, b"", b"", DEEPEST, lengths));
     assert_eq!(outcome, of(12, 0, 0));
 }
