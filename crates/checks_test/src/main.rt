@@ -51,14 +51,22 @@ fn grammar(name: &[u8], nodes: &[i32], literals: &[u8]) {
 }
 
 fn grammars() {
-    grammar(b"M1's grammar", &[1, 0, 1, 0, 8, 7, 1, 0, 19, 3, 0, 0, 6, 2, 3, 0], b"abc");
+    grammar(
+        b"M1's grammar",
+        &[1, 0, 1, 0, 8, 7, 1, 0, 19, 3, 0, 0, 6, 2, 3, 0],
+        b"abc",
+    );
     grammar(b"literals that are not UTF-8", &[5, 0, 0, 0], b"\xFF");
     grammar(b"literals that are not UTF-8, and no nodes", &[], b"\xFF");
     grammar(b"no nodes", &[], b"");
     grammar(b"five numbers", &[5, 0, 0, 0, 5], b"");
     grammar(b"kind 21", &[5, 0, 0, 0, 21, 0, 0, 0], b"");
     grammar(b"a sequence of its own line", &[9, 1, 0, 0], b"");
-    grammar(b"a repeat of an empty text", &[1, 0, 0, 0, 10, 1, 0, 0], b"");
+    grammar(
+        b"a repeat of an empty text",
+        &[1, 0, 0, 0, 10, 1, 0, 0],
+        b"",
+    );
     grammar(b"a repeat of a text", &[1, 0, 1, 0, 10, 1, 0, 0], b"a");
 }
 
@@ -73,7 +81,13 @@ fn first_bytes(bytes: &[u8], n: usize) -> &[u8] {
 
 // A text of 65,536 bytes, and all of it but the last.
 fn long_texts(long: &[u8]) {
-    input(b"text of 65,535 bytes", first_bytes(long, 65535), 1, 515, 4864);
+    input(
+        b"text of 65,535 bytes",
+        first_bytes(long, 65535),
+        1,
+        515,
+        4864,
+    );
     input(b"text of 65,536 bytes", long, 1, 515, 4864);
     grammar(b"literals of 65,536 bytes", &[5, 0, 0, 0], long);
 }
@@ -84,7 +98,13 @@ fn long_inputs() {
 }
 
 fn inputs() {
-    input(b"text that is not UTF-8, and depth 0", b"\x80", 0, 515, 4864);
+    input(
+        b"text that is not UTF-8, and depth 0",
+        b"\x80",
+        0,
+        515,
+        4864,
+    );
     input(b"depth 0", b"", 0, 515, 4864);
     input(b"depth 1,024", b"", 1024, 515, 4864);
     input(b"depth 1,025, and a short report", b"", 1025, 514, 4864);

@@ -1,7 +1,10 @@
 // Runs the matching layer on RFC 3629's examples and boundaries, and on the cases of document 01's "Position": one line a case, with what
 // was answered.
 use matching::position::BytePosition;
+use matching::position::Edge;
 use matching::position::Matched;
+use matching::position::Position;
+use matching::position::Range;
 use matching::span::Span;
 use matching::utf8::Char;
 
@@ -245,6 +248,123 @@ fn spans() {
     span(b"abc", 7, 9);
 }
 
+// ── `Position`, which carries its text: each of its functions ──
+// Where a position that was made at the start of a text stands after a match was tried, and whether it matched. Each function below holds
+// the position and lends it to a matcher; their proofs are by hand.
+struct Tried {
+    pos: usize,
+    matched: bool,
+}
+
+fn string_held<'a>(input: &'a [u8], s: &'a [u8]) -> Tried {
+    let mut p = Position::from_start(input);
+    let matched = p.match_string(s);
+    let pos = p.pos();
+    Tried { pos, matched }
+}
+
+fn insensitive_held<'a>(input: &'a [u8], s: &'a [u8]) -> Tried {
+    let mut p = Position::from_start(input);
+    let matched = p.match_insensitive(s);
+    let pos = p.pos();
+    Tried { pos, matched }
+}
+
+fn range_held(input: &[u8], range: Range) -> Tried {
+    let mut p = Position::from_start(input);
+    let matched = p.match_range(range);
+    let pos = p.pos();
+    Tried { pos, matched }
+}
+
+fn skip_held(input: &[u8], n: usize) -> Tried {
+    let mut p = Position::from_start(input);
+    let matched = p.skip(n);
+    let pos = p.pos();
+    Tried { pos, matched }
+}
+
+fn answer_held(input: &[u8], t: Tried) {
+    say(b" in \"");
+    say(input);
+    if t.matched {
+        say(b"\": matched, now at ");
+    } else {
+        say(b"\": failed, still at ");
+    }
+    number(t.pos);
+    say(b"\n");
+}
+
+fn tried_string<'a>(input: &'a [u8], s: &'a [u8]) {
+    say(b"Position match_string \"");
+    say(s);
+    say(b"\"");
+    answer_held(input, string_held(input, s));
+}
+
+fn tried_insensitive<'a>(input: &'a [u8], s: &'a [u8]) {
+    say(b"Position match_insensitive \"");
+    say(s);
+    say(b"\"");
+    answer_held(input, insensitive_held(input, s));
+}
+
+fn tried_range(input: &[u8], start: u32, end: u32) {
+    say(b"Position match_range ");
+    io::print_decimal(1, start as u64);
+    say(b" to ");
+    io::print_decimal(1, end as u64);
+    answer_held(input, range_held(input, Range { start, end }));
+}
+
+fn tried_skip(input: &[u8], n: usize) {
+    say(b"Position skip ");
+    number(n);
+    answer_held(input, skip_held(input, n));
+}
+
+// `new` answers an edge of the text, or none.
+fn edge(input: &[u8], at: usize) {
+    say(b"Position new");
+    place(input, at);
+    match Position::new(input, at) {
+        Edge::At(p) => {
+            number(p.0);
+            say(b"\n");
+        }
+        Edge::None => say(b"none\n"),
+    }
+}
+
+// `new_internal` and `at_end`, which `end_of_input` calls.
+fn end_held(input: &[u8], at: usize) {
+    say(b"Position at_end");
+    place(input, at);
+    truth(matching::position::end_of_input(input, BytePosition(at)));
+}
+
+fn positions() {
+    tried_string(b"abcd", b"abc");
+    tried_string(b"abcd", b"abd");
+    tried_string(b"ab", b"abc");
+    tried_insensitive(b"kHz", b"KHZ");
+    tried_insensitive(b"kHz", b"KHA");
+    tried_range(b"b", 97, 98);
+    tried_range(b"c", 97, 98);
+    tried_range(b"\xCE\x91.", 0x391, 0x3A9);
+    tried_skip(b"A\xE2\x89\xA2.", 2);
+    tried_skip(b"A\xE2\x89\xA2.", 4);
+    tried_skip(b"", 0);
+    edge(b"A\xE2\x89\xA2.", 1);
+    edge(b"A\xE2\x89\xA2.", 2);
+    edge(b"A\xE2\x89\xA2.", 5);
+    edge(b"A\xE2\x89\xA2.", 6);
+    end_held(b"ab", 1);
+    end_held(b"ab", 2);
+    end_held(b"ab", 3);
+}
+
 fn main() {
     rfc_examples();
     boundaries();
@@ -254,4 +374,5 @@ fn main() {
     ranges();
     skips();
     spans();
+    positions();
 }

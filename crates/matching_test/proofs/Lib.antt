@@ -1,0 +1,3 @@
+pub mod LentPosition
+pub mod PlainHolder
+pub mod TextHolder
