@@ -1,5 +1,5 @@
-// Runs what checks tests before a run and before a call: a case or two for each number of a refusal and for each arm of an entry, one line a
-// case, with what was answered. What is to be written was worked out from document 01.
+// Runs what checks tests before a run and before a call: a case or two for each number of a refusal and for each arm of an entry, one
+// line a case, with what was answered. What is to be written was worked out from document 01.
 use checks::call_limit_tracker::Admitted;
 use checks::call_limit_tracker::CallLimitTracker;
 use checks::call_limit_tracker::LimitReached;
