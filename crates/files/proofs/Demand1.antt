@@ -44,8 +44,10 @@ module _ (s : List ℕ) (before after : List ℤ) (g : Given) (b : Back) (w : Sh
         };
     accepted = λ k ns e.
         let a : Answered (read k ns) g b = subst (λ x. Answered x g b) e (w .answered) in
-        let d = Run.demand-1 (handed ns g) (g .scratch) (b .scratch) (outcome-of (b .answer) (b .tokens) (b .report)) a in
-        record { nodes = w .area ∙ ap (λ x. area-after x before) e; refused = d .refused; accepted = d .accepted };
+        record {
+          nodes = w .area ∙ ap (λ x. area-after x before) e;
+          run = Run.demand-1 (handed ns g) (g .scratch) (b .scratch) (outcome-of (b .answer) (b .tokens) (b .report)) a;
+        };
   }
 
 -- What `run_sheet` was handed and what came back: the record that its `ensures` cites.
