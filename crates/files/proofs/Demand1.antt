@@ -2,7 +2,7 @@
 -- demand 1 of its own.
 use Prim.Native.Nat.{ℕ, _*_, _≤_}
 use native.Mathlib.Omega.{arith}
-use mathlib.Core.Path.{_≡_, sym, ap, _∙_, subst}
+use mathlib.Core.Path.{_≡_, ap, _∙_, subst}
 use mathlib.Core.Bool.{Bool, true, false, cond, not}
 use mathlib.Core.List.{List}
 use lib.Dec.{eqb, ltb}
@@ -10,9 +10,9 @@ use lib.IntN.{ℤ}
 use lib.ListN.{length}
 use Rattle.engine.specs.Conclude.{outcome-of}
 use Rattle.reading.proofs.Demand1 as Run
-use Rattle.sheet.specs.Sheet.{count, lines, lined, first-malformed, numbers, Reading, refused, read, reading, area-after}
+use Rattle.sheet.specs.Sheet.{count, lines, lined, first-malformed, refused, read, reading, area-after}
 use Rattle.files.specs.SheetRun.{Given, Back, handed, Answered, SheetRun}
-use Rattle.files.specs.Demand1.{SheetRefused, SheetAccepted, Demand1}
+use Rattle.files.specs.Demand1.{Demand1}
 
 -- a sheet is refused by 1 to 3
 refused-by : (s : List ℕ) (room n p : ℕ) → reading s room ≡ refused n p → (1 ≤ n) × (n ≤ 3)
@@ -44,8 +44,10 @@ module _ (s : List ℕ) (before after : List ℤ) (g : Given) (b : Back) (w : Sh
         };
     accepted = λ k ns e.
         let a : Answered (read k ns) g b = subst (λ x. Answered x g b) e (w .answered) in
-        let d = Run.demand-1 (handed ns g) (g .scratch) (b .scratch) (outcome-of (b .answer) (b .tokens) (b .report)) a in
-        record { nodes = w .area ∙ ap (λ x. area-after x before) e; refused = d .refused; accepted = d .accepted };
+        record {
+          nodes = w .area ∙ ap (λ x. area-after x before) e;
+          run = Run.demand-1 (handed ns g) (g .scratch) (b .scratch) (outcome-of (b .answer) (b .tokens) (b .report)) a;
+        };
   }
 
 -- What `run_sheet` was handed and what came back: the record that its `ensures` cites.

@@ -2,8 +2,8 @@
 -- that it was lent, of 16,380 and 515 numbers, so that there are 3,276 lines at most behind the head.
 use Prim.Native.Nat.{ℕ, _+_, _-_, _*_, _≤_}
 use native.Mathlib.Omega.{arith}
-use mathlib.Core.Path.{_≡_, refl, sym, ap, _∙_, subst}
-use mathlib.Core.List.{List, [], _∷_, _++_}
+use mathlib.Core.Path.{_≡_, sym, ap, _∙_, subst}
+use mathlib.Core.List.{List, _++_}
 use mathlib.Core.Option.{Option, none, some}
 use lib.IntN.{ℤ, pos}
 use lib.ListN.{length, take, drop, replicate, length-append, length-replicate}
@@ -20,7 +20,7 @@ use Rattle.reading.specs.Outcome.{Input, Refusal, refusal, reading, Answer, ans
 use Rattle.reading.proofs.Exact.{length-numbers}
 use Rattle.sheet.specs.Area.{over}
 use Rattle.sheet.specs.Sheet as Sheet
-use Rattle.sheet.specs.Listing.{listing, whole, Written, ListingWritten}
+use Rattle.sheet.specs.Listing.{listing, whole, ListingWritten}
 use Rattle.sheet.proofs.WholeLaws.{whole-fits}
 use Rattle.files.specs.SheetRun.{Given, Back, handed, Answered, SheetRun}
 use Rattle.files.specs.Listed.{given, node-area, answer-to, printed, listing-of, Listed}

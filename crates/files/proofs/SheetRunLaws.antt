@@ -11,7 +11,7 @@ use Rattle.engine.specs.declared.state.Outcome.{Outcome}
 use Rattle.sheet.specs.Area.{over}
 use Rattle.sheet.specs.Sheet.{count, lines, numbers, Reading, refused, read, reading, outcome, SheetRead}
 use Rattle.files.specs.SheetRun.{Given, Back, Answered, SheetRun}
-use Rattle.sheet.proofs.SheetLaws.{lines-numbers, lined-odd, test-1, Passed, passed}
+use Rattle.sheet.proofs.SheetLaws.{lines-numbers, lined-odd, test-1, passed}
 
 module _ (s : List ℕ) (a b : List ℤ) (r : Outcome) (g : Given) (w : SheetRead s a b r) where
   pub run-refused : (r .number ≡ 0 → ⊥) → SheetRun s a b g (record { answer = r; tokens = g .tokens; report = g .report; scratch = g .scratch })

@@ -3,12 +3,10 @@
 use Prim.Native.Nat.{ℕ, _≤_}
 use mathlib.Core.Path.{_≡_}
 use mathlib.Core.List.{List}
-use mathlib.Core.Option.{none, some}
 use lib.IntN.{ℤ}
 use lib.ListN.{length}
 use Rattle.engine.specs.Conclude.{outcome-of}
-use Rattle.reading.specs.Outcome.{Refusal, refusal}
-use Rattle.reading.specs.Demand1.{Refused, Ended}
+use Rattle.reading.specs.Demand1 as Run
 use Rattle.sheet.specs.Area.{over}
 use Rattle.sheet.specs.Sheet.{refused, read, reading}
 use Rattle.files.specs.SheetRun.{Given, Back, handed}
@@ -23,17 +21,13 @@ pub record SheetRefused (number place : ℕ) (before after : List ℤ) (g : Give
   pub report : b .report ≡ g .report
   pub scratch : b .scratch ≡ g .scratch
 
--- What is said of a sheet that was read to these nodes.
+-- A sheet that was read to these nodes, "and writes just their nodes". Demand 1 of the run over them: refused by 4 to 9, with tokens, report
+-- and scratch as they were, or "accepted and run to an end" in 0 or 10 to 16.
 pub record SheetAccepted (ns before after : List ℤ) (g : Given) (b : Back) : Type 0 where
-  -- "and writes just their nodes"
   pub nodes : after ≡ over ns before
-  -- One of 4 to 9, and tokens, report and scratch as they were.
-  pub refused :
-      (r : Refusal) → refusal (handed ns g) ≡ some r →
-      Refused (handed ns g) r (outcome-of (b .answer) (b .tokens) (b .report)) (g .scratch) (b .scratch)
-  -- "Every other sheet, text and limit is accepted and run to an end": 0, or 10 to 16.
-  pub accepted : refusal (handed ns g) ≡ none → Ended (b .answer .number)
+  pub run : Run.Demand1 (handed ns g) (outcome-of (b .answer) (b .tokens) (b .report)) (g .scratch) (b .scratch)
 
 pub record Demand1 (sheet : List ℕ) (before after : List ℤ) (g : Given) (b : Back) : Type 0 where
   pub refused : (n p : ℕ) → reading sheet (length before) ≡ refused n p → SheetRefused n p before after g b
+  -- "Every other sheet".
   pub accepted : (k : ℕ) (ns : List ℤ) → reading sheet (length before) ≡ read k ns → SheetAccepted ns before after g b

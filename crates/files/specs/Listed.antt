@@ -3,7 +3,6 @@
 use Prim.Native.Nat.{ℕ, _≤_}
 use mathlib.Core.List.{List}
 use lib.ListN.{length, replicate}
-use Rattle.engine.specs.declared.state.Outcome as Returned
 use Rattle.reading.specs.Outcome.{Outcome, outcome}
 use Rattle.sheet.specs.Sheet.{Reading, refused, read, reading}
 use Rattle.sheet.specs.Listing.{listing, whole, Written}

@@ -1,12 +1,12 @@
 -- Demand 1 of a sheet's reading: each of its rows is one case of `reading`, and what keeps `SheetRead` is what that case says.
-use Prim.Native.Nat.{ℕ, _*_}
+use Prim.Native.Nat.{ℕ}
 use mathlib.Core.Path.{_≡_, refl, ap, _∙_}
 use mathlib.Core.List.{List}
 use lib.IntN.{ℤ}
 use lib.ListN.{length}
 use Rattle.engine.specs.declared.state.Outcome.{Outcome}
-use Rattle.sheet.specs.Sheet.{count, lines, numbers, refused, read, reading, outcome, area-after, SheetRead}
-use Rattle.sheet.specs.Demand1.{Refused, Accepted, Demand1}
+use Rattle.sheet.specs.Sheet.{refused, read, reading, outcome, area-after, SheetRead}
+use Rattle.sheet.specs.Demand1.{Refused, Demand1}
 use Rattle.sheet.proofs.SheetLaws.{test-0, test-1, test-2, test-3, lines-numbers}
 
 module _ (s : List ℕ) (a b : List ℤ) (r : Outcome) (w : SheetRead s a b r) where

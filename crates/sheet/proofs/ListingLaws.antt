@@ -4,16 +4,16 @@ use Prim.Native.Nat.{ℕ, zero, suc, _+_, _-_, _*_, _/_, _%_, _≤_, _<_}
 use native.Mathlib.Omega.{arith}
 use native.Mathlib.Numerals.{add-one}
 use mathlib.Core.Path.{_≡_, refl, sym, ap, _∙_}
-use mathlib.Core.Bool.{Bool, true, false, cond}
+use mathlib.Core.Bool.{false, cond}
 use mathlib.Core.List.{List, [], _∷_, _++_, append-assoc, append-nil}
-use lib.Dec.{ltb, leb}
+use lib.Dec.{ltb}
 use lib.ListN.{length, getD, take, drop, set, replicate, length-append, length-set, length-replicate, take-append-drop}
 use lib.Seq.{length-take-le, sets, length-sets, set-comm, take-suc, take-all}
 use borrow.Author.Tests.{lt-ltb, le-ltb, le-leb, lt-leb, eq-eqb, ne-eqb}
 use Rattle.engine.specs.declared.state.Outcome.{Outcome}
 use Rattle.sheet.specs.Area.{over}
 use Rattle.sheet.specs.Numeral.{numeral, justified}
-use Rattle.sheet.specs.Listing.{six, fields, line-text, head-line, token-line, rule-line, later-line, later-count, whole, Written}
+use Rattle.sheet.specs.Listing.{six, fields, line-text, token-line, rule-line, later-line, later-count, whole, Written}
 use Rattle.sheet.proofs.NumeralLaws.{numeral-digit, numeral-tens, leads}
 use Rattle.sheet.proofs.SheetLaws.{over-more, over-none, over-length}
 

@@ -1,5 +1,4 @@
 -- Whatever the run left in the two areas is what document 01 answers, and its listing is what was written.
-use mathlib.Core.Path.{_∙_}
 use Rattle.files.proofs.ListedLaws.{listed}
 use borrow.Author.Needs.{needs}
 use Rattle.files.proofs.list_texts.Statement.{statement}

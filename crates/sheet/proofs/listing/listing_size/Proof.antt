@@ -1,6 +1,6 @@
 -- `listing_size` sums what each line took of an area that holds any line.
-use mathlib.Core.Path.{_≡_, refl, sym, _∙_}
-use Prim.Native.Nat.{_+_, _-_, _<_}
+use mathlib.Core.Path.{_≡_, refl}
+use Prim.Native.Nat.{_-_}
 use native.Mathlib.Omega.{arith}
 use Rattle.sheet.specs.Listing.{later-count}
 use Rattle.sheet.proofs.WholeLaws.{Numbers, Sized, sized-head, sized-small, sized-line, sized-more, sized-all}

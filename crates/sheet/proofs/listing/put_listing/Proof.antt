@@ -1,6 +1,6 @@
 -- `put_listing` writes line behind line over the start of the area, each into what lies behind the others.
-use mathlib.Core.Path.{_≡_, refl, sym, _∙_}
-use Prim.Native.Nat.{_+_, _-_, _<_}
+use mathlib.Core.Path.{_≡_, _∙_}
+use Prim.Native.Nat.{_-_}
 use native.Mathlib.Omega.{arith}
 use Rattle.sheet.specs.Listing.{later-count}
 use Rattle.sheet.proofs.WholeLaws.{Lined, lined-head, lined-length, lined-within, lined-place, lined-from, lined-more, lined-all}
