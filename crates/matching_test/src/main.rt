@@ -337,9 +337,20 @@ fn edge(input: &[u8], at: usize) {
     }
 }
 
-// `new_internal` and `at_end`, which `end_of_input` calls.
-fn end_held(input: &[u8], at: usize) {
+// `new_internal` takes any number; `at_end` holds at the text's end alone.
+fn end_held(input: &[u8], at: BytePosition) -> bool {
+    Position::new_internal(input, at).at_end()
+}
+
+fn tried_end(input: &[u8], at: usize) {
     say(b"Position at_end");
+    place(input, at);
+    truth(end_held(input, BytePosition(at)));
+}
+
+// What the run calls at kind 5.
+fn tried_end_of_input(input: &[u8], at: usize) {
+    say(b"end_of_input");
     place(input, at);
     truth(matching::position::end_of_input(input, BytePosition(at)));
 }
@@ -360,9 +371,12 @@ fn positions() {
     edge(b"A\xE2\x89\xA2.", 2);
     edge(b"A\xE2\x89\xA2.", 5);
     edge(b"A\xE2\x89\xA2.", 6);
-    end_held(b"ab", 1);
-    end_held(b"ab", 2);
-    end_held(b"ab", 3);
+    tried_end(b"ab", 1);
+    tried_end(b"ab", 2);
+    tried_end(b"ab", 3);
+    tried_end_of_input(b"ab", 1);
+    tried_end_of_input(b"ab", 2);
+    tried_end_of_input(b"ab", 3);
 }
 
 fn main() {
