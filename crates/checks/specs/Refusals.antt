@@ -1,4 +1,4 @@
--- How the code's answer to the tests 4 to 9 stands for a refusal: what the contract of src/grammar.rt's `refusal` cites.
+-- How the code's answer to the tests 4 to 9 stands for a refusal: what the contracts of src/grammar.rt cite.
 use mathlib.Core.Bool.{_&&_}
 use mathlib.Core.List.{List, [], _∷_}
 use mathlib.Core.Option.{Option, none, some}

@@ -224,7 +224,7 @@ track r p pi ni prev m =
 abbrev pub produces : ParserState → Bool
 produces m = is-none (m .lookahead) && not (is-atomic (m .atomicity))
 
--- `*end_token_index = new_index`
+-- `*end_token_index = new_index`; at an End pest's `unreachable!()`, which is not reached
 abbrev pub with-end : ℕ → QueueableToken → QueueableToken
 with-end i (Start e p) = Start i p
 with-end i (End s r t p) = End s r t p

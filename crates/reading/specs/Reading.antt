@@ -1,4 +1,5 @@
--- Document 01's reading: what it threads, and how each node is evaluated. Nothing here is pest's; pest's own state is in Pest.
+-- Document 01's reading: what it threads, and how each node is evaluated. pest's own state is in Pest, whose header
+-- names what it takes from here.
 use mathlib.Core.Bool.{Bool, true, false, _&&_, _||_, not}
 use mathlib.Core.List.{List, [], _∷_, _++_, reverse}
 use mathlib.Core.Option.{Option, none, some}
