@@ -5,3 +5,4 @@ pub mod NullableSteps
 pub mod RefusalLaws
 pub mod IndexLaws
 pub mod TrackerLaws
+pub mod PackedLaws

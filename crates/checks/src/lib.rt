@@ -4,3 +4,4 @@ pub mod call_limit_tracker;
 pub mod grammar;
 pub mod node;
 mod nullable;
+pub mod packed;

@@ -12,7 +12,11 @@ use checks::node::is_top_down;
 use checks::node::natural_of;
 use checks::node::normalize_end;
 use checks::node::normalize_index;
+use checks::packed::packed;
+use checks::packed::unpacked;
 use reading::call_limit_tracker::LimitKind;
+use reading::parser_state::Cause;
+use reading::parser_state::Ending;
 
 fn say(s: &[u8]) {
     io::write_all(1, s);
@@ -271,6 +275,44 @@ fn entries() {
     entry(stopped(0, 0, LimitKind::Stack), false, 1);
 }
 
+// ── An ending as one number, and the ending of that number ──
+fn stop_at(name: &[u8], line: u32) {
+    say(name);
+    io::print_decimal(1, line as u64);
+}
+
+fn ending(e: Ending) {
+    match e {
+        Ending::Ok => say(b"Ok"),
+        Ending::Err => say(b"Err"),
+        Ending::Stop(c) => match c {
+            Cause::EmptyStack(line) => stop_at(b"empty stack at ", line),
+            Cause::TokensFull(line) => stop_at(b"tokens full at ", line),
+            Cause::StackFull(line) => stop_at(b"stack full at ", line),
+            Cause::AttemptsFull(line) => stop_at(b"attempts full at ", line),
+        },
+    }
+}
+
+fn there_and_back(e: Ending) {
+    ending(e);
+    say(b": ");
+    let n = packed(e);
+    number(n);
+    say(b", ");
+    ending(unpacked(n));
+    say(b"\n");
+}
+
+fn endings() {
+    there_and_back(Ending::Err);
+    there_and_back(Ending::Ok);
+    there_and_back(Ending::Stop(Cause::EmptyStack(0)));
+    there_and_back(Ending::Stop(Cause::TokensFull(1)));
+    there_and_back(Ending::Stop(Cause::StackFull(4096)));
+    there_and_back(Ending::Stop(Cause::AttemptsFull(4294967295)));
+}
+
 fn main() {
     grammars();
     long_inputs();
@@ -278,4 +320,5 @@ fn main() {
     indexes();
     fields();
     entries();
+    endings();
 }

@@ -12,8 +12,8 @@ use borrow.Author.Tests.{eq-eqb, ne-eqb, eqb-true}
 use Rattle.engine.specs.declared.node.Line.{Line}
 use Rattle.engine.specs.declared.spine.Spine.{Spine}
 use Rattle.engine.specs.Fields as Code
-use Rattle.engine.specs.declared.parser_state.Ending as Coded
-use Rattle.engine.specs.declared.parser_state.Ending.the-variants as Coded-of
+use Rattle.reading.specs.declared.parser_state.Ending as Coded
+use Rattle.reading.specs.declared.parser_state.Ending.the-variants as Coded-of
 use Rattle.reading.specs.declared.parser_state.Cause.{Cause}
 use Rattle.reading.specs.Ending.{if_then_else_, Ending, Ok, Err, Stop, on-ok, on-err}
 use Rattle.reading.specs.Grammar.{Exp, and-then, or-else, natural, node-at, kind-at, line-count, tree-at}

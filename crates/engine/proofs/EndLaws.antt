@@ -13,8 +13,8 @@ use Rattle.matching.specs.declared.position.TokenIndex.{TokenIndex}
 use Rattle.matching.specs.declared.position.Matched.{Matched}
 use Rattle.reading.specs.declared.parser_state.Lookahead.{Lookahead}
 use Rattle.reading.specs.declared.parser_state.Atomicity.{Atomicity}
-use Rattle.engine.specs.declared.parser_state.Ending as Declared
-use Rattle.engine.specs.declared.parser_state.Ending.the-variants as Variants
+use Rattle.reading.specs.declared.parser_state.Ending as Declared
+use Rattle.reading.specs.declared.parser_state.Ending.the-variants as Variants
 use Rattle.engine.specs.Fields as Code
 use Rattle.reading.specs.Ending.{if_then_else_, Ok, Err, Stop}
 use Rattle.reading.specs.Pest.{ParserState, QueueableToken, set-position, set-queue, set-lookahead, limit-reached, moved}

@@ -1,5 +1,4 @@
 pub mod StateFields
-pub mod PackedLaws
 pub mod Regions
 pub mod Moves
 pub mod StackSteps

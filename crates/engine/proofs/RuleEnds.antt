@@ -9,8 +9,8 @@ use lib.Dec.{ltb}
 use Rattle.reading.specs.declared.parser_state.Cause.the-variants.{AttemptsFull}
 use Rattle.engine.specs.declared.attempts.Noted.{Noted}
 use Rattle.engine.specs.Fields as Code
-use Rattle.engine.specs.declared.parser_state.Ending as Code·ending
-use Rattle.engine.specs.declared.parser_state.Ending.the-variants as Code·of
+use Rattle.reading.specs.declared.parser_state.Ending as Code·ending
+use Rattle.reading.specs.declared.parser_state.Ending.the-variants as Code·of
 use Rattle.reading.specs.Ending.{Ending, Ok, Err, Stop, on-ok, stop-if, is-negative, is-atomic}
 use Rattle.reading.specs.Grammar.{end-of-input}
 use Rattle.reading.specs.Reading.{Setting, most-attempts}

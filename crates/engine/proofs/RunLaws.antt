@@ -13,8 +13,8 @@ use Rattle.reading.specs.declared.parser_state.Atomicity.the-variants.{NonAtomi
 use Rattle.checks.specs.declared.call_limit_tracker.LimitReached.the-variants.{No}
 use Rattle.checks.specs.declared.grammar.Refused.the-variants.{By}
 use Rattle.engine.specs.Fields as State
-use Rattle.engine.specs.declared.parser_state.Ending as Declared
-use Rattle.engine.specs.declared.parser_state.Ending.the-variants as Code
+use Rattle.reading.specs.declared.parser_state.Ending as Declared
+use Rattle.reading.specs.declared.parser_state.Ending.the-variants as Code
 use Rattle.reading.specs.Ending.{Ending, Ok, Err, Stop}
 use Rattle.reading.specs.Grammar.{line-count, tree-at, root}
 use Rattle.reading.specs.Pest as Pest

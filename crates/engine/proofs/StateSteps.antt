@@ -20,7 +20,7 @@ use Rattle.engine.specs.declared.stack.Pushed.the-variants as Pushed
 use Rattle.engine.specs.declared.stack.Popped.the-variants as Popped
 use Rattle.checks.specs.declared.node.Index.the-variants as Index
 use Rattle.engine.specs.declared.stack_match.MatchPopped.the-variants as MatchPopped
-use Rattle.engine.specs.declared.parser_state.Ending as Code·ending
+use Rattle.reading.specs.declared.parser_state.Ending as Code·ending
 use Rattle.reading.specs.Pest as Pest
 use Rattle.engine.specs.declared.stack.Stack.{Stack}
 use Rattle.engine.specs.declared.stack.Pushed.{Pushed}

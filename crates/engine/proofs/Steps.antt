@@ -19,8 +19,8 @@ use Rattle.reading.specs.declared.call_limit_tracker.LimitKind.the-variants as 
 use Rattle.engine.specs.declared.attempts.Noted.{Noted}
 use Rattle.engine.specs.Fields as Code
 use Rattle.engine.specs.Fields.{state-size}
-use Rattle.engine.specs.declared.parser_state.Ending as Coded
-use Rattle.engine.specs.declared.parser_state.Ending.the-variants as Coded-of
+use Rattle.reading.specs.declared.parser_state.Ending as Coded
+use Rattle.reading.specs.declared.parser_state.Ending.the-variants as Coded-of
 use Rattle.reading.specs.Ending.{if_then_else_, Ending, Ok, Err, Stop, on-ok, stop-if}
 use Rattle.reading.specs.Grammar as Grammar
 use Rattle.reading.specs.Grammar.{Exp, tree-at}

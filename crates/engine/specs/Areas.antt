@@ -6,8 +6,8 @@ use Prim.Native.Nat.{ℕ, zero, suc, _+_, _*_, _≤_, _<_}
 use lib.ListN.{length, getD}
 use lib.Dec.{eqb}
 use Rattle.engine.specs.declared.stack.Stack.{Stack}
-use Rattle.engine.specs.declared.parser_state.Ending.{Ending}
-use Rattle.engine.specs.declared.parser_state.Ending.the-variants as Code
+use Rattle.reading.specs.declared.parser_state.Ending.{Ending}
+use Rattle.reading.specs.declared.parser_state.Ending.the-variants as Code
 use Rattle.engine.specs.Fields.{ParserState}
 use Rattle.reading.specs.Ending as Model
 use Rattle.reading.specs.Ending.{if_then_else_, Span, Checkpoint}

@@ -2,8 +2,8 @@
 use mathlib.Core.List.{List}
 use Prim.Native.Nat.{ℕ, _*_, _≤_}
 use lib.ListN.{length}
-use Rattle.engine.specs.declared.parser_state.Ending as Declared
-use Rattle.engine.specs.declared.parser_state.Ending.the-variants as Code
+use Rattle.reading.specs.declared.parser_state.Ending as Declared
+use Rattle.reading.specs.declared.parser_state.Ending.the-variants as Code
 use Rattle.engine.specs.declared.state.Outcome as Returned
 use Rattle.reading.specs.Outcome.{Outcome}
 use Rattle.engine.specs.Fields as State

@@ -4,8 +4,8 @@ use mathlib.Core.List.{List}
 use Prim.Native.Nat.{ℕ, _≤_}
 use Rattle.matching.specs.declared.position.BytePosition.{BytePosition}
 use Rattle.reading.specs.declared.parser_state.Atomicity.{Atomicity}
-use Rattle.engine.specs.declared.parser_state.Ending as Declared
-use Rattle.engine.specs.declared.parser_state.Ending.the-variants as Code
+use Rattle.reading.specs.declared.parser_state.Ending as Declared
+use Rattle.reading.specs.declared.parser_state.Ending.the-variants as Code
 use Rattle.engine.specs.Fields as State
 use Rattle.reading.specs.Ending.{if_then_else_, Ending, Ok, Err, Stop}
 use Rattle.reading.specs.Pest.{ParserState, set-atomicity, limit-reached}

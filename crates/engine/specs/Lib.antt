@@ -1,5 +1,4 @@
 pub mod Fields
-pub mod Packed
 pub mod Areas
 pub mod Pairs
 pub mod Bounded

@@ -8,8 +8,8 @@ use lib.IntN.{ℤ}
 use lib.ListN.{length}
 use lib.Dec.{eqb}
 use Rattle.engine.specs.declared.spine.Spine.{Spine}
-use Rattle.engine.specs.declared.parser_state.Ending.{Ending}
-use Rattle.engine.specs.declared.parser_state.Ending.the-variants.{Ok, Err, Stop}
+use Rattle.reading.specs.declared.parser_state.Ending.{Ending}
+use Rattle.reading.specs.declared.parser_state.Ending.the-variants.{Ok, Err, Stop}
 use Rattle.reading.specs.Ending.{if_then_else_}
 use Rattle.reading.specs.Grammar.{natural, node-at, kind-at, line-count}
 

@@ -7,7 +7,6 @@ mod entry;
 mod fields;
 mod leaves;
 mod node;
-mod packed;
 mod parser_state;
 mod queueable_token;
 mod rule;

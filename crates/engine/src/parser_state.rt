@@ -20,8 +20,6 @@ use crate::leaves::leaf;
 use crate::leaves::walk;
 use crate::node::ends_at;
 use crate::node::line_at;
-use crate::packed::packed;
-use crate::packed::unpacked;
 use crate::rule::start_rule;
 use crate::rule::tag_node;
 use crate::spine::descend;
@@ -33,8 +31,10 @@ use crate::stack_state::moved;
 use crate::stack_state::stack_match_peek_slice;
 use crate::stack_state::stack_match_pop;
 use crate::stack_state::stack_pop;
+use checks::packed::packed;
+use checks::packed::unpacked;
 use reading::parser_state::Atomicity;
-use reading::parser_state::Cause;
+use reading::parser_state::Ending;
 use reading::parser_state::Lookahead;
 ghost use mathlib.Core.Path.{_≡_};
 ghost use mathlib.Core.Bool.{true, false};
@@ -46,16 +46,9 @@ ghost use Rattle.reading.specs.Grammar.{kind-at, tree-at, atomicity-of};
 ghost use Rattle.reading.specs.Pest as Pest;
 ghost use Rattle.engine.specs.Fields.{state-size, fields};
 ghost use Rattle.engine.specs.Areas.{view, view-end};
-ghost use Rattle.engine.specs.Packed.{unpacked};
+ghost use Rattle.checks.specs.Packed.{unpacked};
 ghost use Rattle.engine.specs.Spine.{Fork, below};
 ghost use Rattle.engine.specs.Evaluation.{Ready, Line, evaluated, opens-call};
-
-// "Evaluation ends Ok, Err, or in a stop that names its cause." The state that Ok and Err left stands where it was lent.
-pub enum Ending {
-    Ok,
-    Err,
-    Stop(Cause),
-}
 
 // "b 0 Atomic, 1 CompoundAtomic, 2 NonAtomic"
 fn atomicity_of(b: usize) -> Atomicity

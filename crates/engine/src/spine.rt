@@ -1,7 +1,7 @@
 // The left sides of kinds 6 and 7, one below the other. They open no call, so the evaluation goes down them in a loop and not by
 // recursion, which would take native stack for each.
 use crate::node::line_at;
-use crate::parser_state::Ending;
+use reading::parser_state::Ending;
 ghost use mathlib.Core.Path.{_≡_};
 ghost use mathlib.Core.Bool.{true, false};
 ghost use Rattle.engine.specs.Spine.{Fork, Slopes, Spined, Forks, spine-line, goes, ending-of};

@@ -1,4 +1,5 @@
-// The enums of pest's parser_state.rs that the reading speaks of, and the causes of document 01's added stops.
+// The enums of pest's parser_state.rs that the reading speaks of, the causes of document 01's added stops, and how the code's evaluation
+// ends.
 
 // The current lookahead status (pest's `Lookahead`).
 pub enum Lookahead {
@@ -20,4 +21,11 @@ pub enum Cause {
     TokensFull(u32),
     StackFull(u32),
     AttemptsFull(u32),
+}
+
+// "Evaluation ends Ok, Err, or in a stop that names its cause." The state that Ok and Err left stands where it was lent.
+pub enum Ending {
+    Ok,
+    Err,
+    Stop(Cause),
 }

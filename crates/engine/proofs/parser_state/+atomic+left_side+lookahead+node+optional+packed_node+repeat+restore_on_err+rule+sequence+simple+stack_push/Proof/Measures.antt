@@ -57,8 +57,8 @@ use Rattle.engine.proofs.fields.set_lookahead.Reads as set-lookahead-re
 use Rattle.engine.proofs.fields.set_position.Reads as set-position-reads
 use Rattle.engine.proofs.leaves.walk.Reads as walk-reads
 use Rattle.engine.proofs.node.line_at.Reads as line-at-reads
-use Rattle.engine.proofs.packed.packed.Reads as packed-reads
-use Rattle.engine.proofs.packed.unpacked.Reads as unpacked-reads
+use Rattle.checks.proofs.packed.packed.Reads as packed-reads
+use Rattle.checks.proofs.packed.unpacked.Reads as unpacked-reads
 use Rattle.engine.proofs.parser_state.atomicity_of.Reads as atomicity-of-reads
 use Rattle.engine.proofs.parser_state.lookahead_in.Reads as lookahead-in-reads
 use Rattle.engine.proofs.parser_state.rule_line.Reads as rule-line-reads

@@ -2,10 +2,10 @@
 use borrow.Author.Needs.{needs}
 use mathlib.Core.Path.{ap, _∙_}
 use Rattle.reading.specs.declared.parser_state.Cause.the-variants.{EmptyStack, TokensFull, StackFull, AttemptsFull}
-use Rattle.engine.specs.declared.parser_state.Ending.the-variants.{Ok, Err, Stop}
-use Rattle.engine.proofs.PackedLaws.{packed-as}
-use Rattle.engine.proofs.packed.packed.Statement.{statement}
-use Rattle.engine.proofs.packed.packed.Tie as tie
+use Rattle.reading.specs.declared.parser_state.Ending.the-variants.{Ok, Err, Stop}
+use Rattle.checks.proofs.PackedLaws.{packed-as}
+use Rattle.checks.proofs.packed.packed.Statement.{statement}
+use Rattle.checks.proofs.packed.packed.Tie as tie
 
 enum-told : tie.Need-enum-told
 enum-told c = search needs

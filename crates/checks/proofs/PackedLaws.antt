@@ -5,9 +5,9 @@ use native.Mathlib.Omega.{arith}
 use borrow.Author.Tests.{eq-eqb, ne-eqb}
 use Rattle.reading.specs.declared.parser_state.Cause.{Cause}
 use Rattle.reading.specs.declared.parser_state.Cause.the-variants.{EmptyStack, TokensFull, StackFull, AttemptsFull}
-use Rattle.engine.specs.declared.parser_state.Ending.{Ending}
-use Rattle.engine.specs.declared.parser_state.Ending.the-variants.{Ok, Err, Stop}
-use Rattle.engine.specs.Packed.{packed, cause-of, unpacked}
+use Rattle.reading.specs.declared.parser_state.Ending.{Ending}
+use Rattle.reading.specs.declared.parser_state.Ending.the-variants.{Ok, Err, Stop}
+use Rattle.checks.specs.Packed.{packed, cause-of, unpacked}
 
 -- ── The code's tests of a number, in the definition's order ──
 module _ (n l : ℕ) where

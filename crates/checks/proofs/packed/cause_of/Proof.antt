@@ -1,7 +1,7 @@
 -- The four cases of the number.
-use Rattle.engine.proofs.PackedLaws.{first-cause, second-cause, third-cause, last-cause}
-use Rattle.engine.proofs.packed.cause_of.Statement.{statement}
-use Rattle.engine.proofs.packed.cause_of.Tie as tie
+use Rattle.checks.proofs.PackedLaws.{first-cause, second-cause, third-cause, last-cause}
+use Rattle.checks.proofs.packed.cause_of.Statement.{statement}
+use Rattle.checks.proofs.packed.cause_of.Tie as tie
 
 returns : tie.Need-returns
 returns c = first-cause _ _ (c .match .keys1)

@@ -1,12 +1,12 @@
 // An ending as one number, for the one call that the compiler leaves of the evaluation: a number comes back in a register, an enum
 // through memory. Everywhere else an ending is an `Ending`.
-use crate::parser_state::Ending;
 use reading::parser_state::Cause;
+use reading::parser_state::Ending;
 ghost use mathlib.Core.Path.{_≡_};
-ghost use Rattle.engine.specs.Packed.{packed, cause-of, unpacked};
+ghost use Rattle.checks.specs.Packed.{packed, cause-of, unpacked};
 
 // The number of an ending, which stands for it.
-pub(crate) fn packed(e: Ending) -> usize
+pub fn packed(e: Ending) -> usize
     ensures { λ r. ⌜ r ≡ packed e ⌝ }
     ensures { λ r. ⌜ unpacked r ≡ e ⌝ }
 {
@@ -35,7 +35,7 @@ fn cause_of(number: usize, line: u32) -> Cause
 }
 
 // The ending of a number: any number has one, so that no caller has to know which numbers come.
-pub(crate) fn unpacked(n: usize) -> Ending
+pub fn unpacked(n: usize) -> Ending
     ensures { λ r. ⌜ r ≡ unpacked n ⌝ }
 {
     match n {

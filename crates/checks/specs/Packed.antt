@@ -4,8 +4,8 @@ use Prim.Native.Nat.{ℕ, _+_, _-_, _*_, _/_, _%_}
 use lib.Dec.{eqb}
 use Rattle.reading.specs.declared.parser_state.Cause.{Cause}
 use Rattle.reading.specs.declared.parser_state.Cause.the-variants.{EmptyStack, TokensFull, StackFull, AttemptsFull}
-use Rattle.engine.specs.declared.parser_state.Ending.{Ending}
-use Rattle.engine.specs.declared.parser_state.Ending.the-variants.{Ok, Err, Stop}
+use Rattle.reading.specs.declared.parser_state.Ending.{Ending}
+use Rattle.reading.specs.declared.parser_state.Ending.the-variants.{Ok, Err, Stop}
 use Rattle.reading.specs.Ending.{if_then_else_}
 
 abbrev pub packed : Ending → ℕ

@@ -1,8 +1,8 @@
 -- The three cases of the number.
 use borrow.Author.Needs.{needs}
-use Rattle.engine.proofs.PackedLaws.{unpacked-err, unpacked-ok, unpacked-stop}
-use Rattle.engine.proofs.packed.unpacked.Statement.{statement}
-use Rattle.engine.proofs.packed.unpacked.Tie as tie
+use Rattle.checks.proofs.PackedLaws.{unpacked-err, unpacked-ok, unpacked-stop}
+use Rattle.checks.proofs.packed.unpacked.Statement.{statement}
+use Rattle.checks.proofs.packed.unpacked.Tie as tie
 
 sub-stop : tie.Need-sub-stop
 sub-stop c = search needs
