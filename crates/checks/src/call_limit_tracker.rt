@@ -7,14 +7,14 @@ ghost use Rattle.checks.specs.Tracker.{one_more, by_depth, entry_at, answered};
 use reading::call_limit_tracker::LimitKind;
 
 // Whether a limit was reached (pest's `Option<LimitKind>`).
-#[derive(Drop)]
+#[derive(Clone, Copy)]
 pub enum LimitReached {
     No,
     By(LimitKind),
 }
 
 // pest's `CallLimitTracker`: the counted calls, the call limit (0: none, and nothing is counted), and the cause once it is set.
-#[derive(Drop)]
+#[derive(Clone, Copy)]
 pub struct CallLimitTracker {
     pub current: usize,
     pub limit: usize,
@@ -22,14 +22,14 @@ pub struct CallLimitTracker {
 }
 
 // What an entry answers, with the tracker after it.
-#[derive(Drop)]
+#[derive(Clone, Copy)]
 pub enum Admitted {
     Yes(CallLimitTracker),
     No(CallLimitTracker),
 }
 
 // The same beside each other.
-#[derive(Drop)]
+#[derive(Clone, Copy)]
 pub struct Answered {
     pub answer: bool,
     pub tracker: CallLimitTracker,

@@ -11,14 +11,14 @@ use crate::nullable::still_repeat;
 use matching::utf8::is_utf8;
 
 // The first line that a test finds; 0 stands for the nodes as a whole.
-#[derive(Drop)]
+#[derive(Clone, Copy)]
 pub enum Fault {
     No,
     At(u32),
 }
 
 // What the tests of a run find: the number and the place of the first refusal.
-#[derive(Drop)]
+#[derive(Clone, Copy)]
 pub enum Refused {
     No,
     By(u32, u32),
@@ -90,7 +90,7 @@ fn calls_rule(nodes: &[i32], a: Field) -> bool
 }
 
 // The tests that the table's rows are made of, on the fields of one line.
-#[derive(Drop)]
+#[derive(Clone, Copy)]
 struct Tests {
     part: bool,
     scalars: bool,

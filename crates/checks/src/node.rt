@@ -8,7 +8,7 @@ ghost use Rattle.checks.specs.FieldTests.{field_of};
 ghost use Rattle.checks.specs.PeekIndex.{index_of};
 
 // A field of a line: whether it is 0 or more, and it as a natural number.
-#[derive(Drop)]
+#[derive(Clone, Copy)]
 pub struct Field {
     pub count: bool,
     pub size: usize,
@@ -57,7 +57,7 @@ pub(crate) fn row_of(rows: &[bool; 20], kind: usize) -> bool
 }
 
 // ── The peek index of kind 16 ──
-#[derive(Drop)]
+#[derive(Clone, Copy)]
 pub enum Index {
     At(usize),
     Outside,

@@ -1,5 +1,7 @@
 // Runs what checks tests before a run and before a call: a case or two for each number of a refusal and for each arm of an entry, one
 // line a case, with what was answered. What is to be written was worked out from document 01.
+#![tactic(auto)]
+
 use checks::call_limit_tracker::{Admitted, CallLimitTracker, LimitReached, check_limit, entered};
 use checks::grammar::{Refused, refusal};
 use checks::node::{Index, is_top_down, natural_of, normalize_end, normalize_index};

@@ -20,7 +20,7 @@ pub const MOST_DEBT: usize = 1024;
 
 pub const MOST_ATTEMPTS: usize = 256;
 
-#[derive(Drop)]
+#[derive(Clone, Copy)]
 pub struct Pair {
     pub first: u32,
     pub second: u32,

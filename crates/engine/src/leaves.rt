@@ -16,7 +16,7 @@ use crate::terminals::{match_end, match_literal};
 use matching::position::{BytePosition, Matched, match_range, skip};
 
 // Where a walk over leaves ends: done, with Ok or not; or at a line that the walk leaves to others. The position either way.
-#[derive(Drop)]
+#[derive(Clone, Copy)]
 pub struct Halt {
     pub line: usize,
     pub position: BytePosition,

@@ -1,4 +1,6 @@
 // The engine: stack, token queue, attempts, evaluation and run.
+#![tactic(auto)]
+
 mod areas;
 mod attempts;
 mod conclude;

@@ -6,7 +6,7 @@ ghost use Rattle.engine.specs.Lines.{line_of, ends_of};
 use checks::node::natural_of;
 
 // A node whose fields are read as natural numbers.
-#[derive(Drop)]
+#[derive(Clone, Copy)]
 pub struct Line {
     pub kind: usize,
     pub a: usize,
@@ -15,7 +15,7 @@ pub struct Line {
 }
 
 // The two ends that `stack_match_peek_slice` is given, which may be negative.
-#[derive(Drop)]
+#[derive(Clone, Copy)]
 pub struct Ends {
     pub start: i32,
     pub end: i32,

@@ -7,7 +7,7 @@ use crate::node::line_at;
 use reading::parser_state::Ending;
 
 // The leftmost line below a line, and how many steps it is away.
-#[derive(Drop)]
+#[derive(Clone, Copy)]
 pub struct Spine {
     pub count: usize,
     pub line: usize,

@@ -14,20 +14,20 @@ use matching::position::BytePosition;
 use matching::span::Span;
 
 // pest's `Stack` in the scratch area: how many entries, popped entries and open checkpoints stand in their regions.
-#[derive(Drop)]
+#[derive(Clone, Copy)]
 pub struct Stack {
     pub height: usize,
     pub popped: usize,
     pub checkpoints: usize,
 }
 
-#[derive(Drop)]
+#[derive(Clone, Copy)]
 pub enum Pushed {
     Kept(Stack),
     Full,
 }
 
-#[derive(Drop)]
+#[derive(Clone, Copy)]
 pub enum Popped {
     Got(Stack, Span),
     Empty,

@@ -21,7 +21,7 @@ pub(crate) fn entry<'a>(text: &'a [u8], scratch: &[u32], index: usize) -> &'a [u
 }
 
 // The entry that comes first in a slice, and the slice without it.
-#[derive(Drop)]
+#[derive(Clone, Copy)]
 pub struct Next {
     pub index: usize,
     pub low: usize,
@@ -76,7 +76,7 @@ pub(crate) fn match_slice(
     Matched::At(at)
 }
 
-#[derive(Drop)]
+#[derive(Clone, Copy)]
 pub enum MatchPopped {
     Matched(Stack, BytePosition),
     Failed(Stack),

@@ -23,7 +23,7 @@ use matching::position::{BytePosition, TokenIndex};
 use reading::parser_state::{Atomicity, Lookahead};
 
 // What a run and a sheet reading return: document 01, "Each returns number, place, count".
-#[derive(Drop)]
+#[derive(Clone, Copy)]
 pub struct Outcome {
     pub number: u32,
     pub place: u32,

@@ -1,5 +1,7 @@
 // Runs the cases of standard input through `run`, one a line, and writes a line for each. What is to be written was worked out from
 // document 01. A line that begins with # says what the cases behind it show.
+#![tactic(auto)]
+
 mod case;
 mod lines;
 mod part;

@@ -1,4 +1,6 @@
 // The listing of a sheet, a literal text and a text, with planread's areas and limits.
+#![tactic(auto)]
+
 pub mod run_sheet;
 
 ghost use Rattle.files.specs.Listed.{Listed};

@@ -1,5 +1,7 @@
 // Runs the matching layer on RFC 3629's examples and boundaries, and on the cases of document 01's "Position": one line a case, with what
 // was answered.
+#![tactic(auto)]
+
 use matching::position::{BytePosition, Edge, Matched, Position, Range};
 use matching::span::Span;
 use matching::utf8::Char;
@@ -247,7 +249,7 @@ fn spans() {
 // ── `Position`, which carries its text: each of its functions ──
 // Where a position that was made at the start of a text stands after a match was tried, and whether it matched. Each function below holds
 // the position and lends it to a matcher; their proofs are by hand.
-#[derive(Drop)]
+#[derive(Clone, Copy)]
 struct Tried {
     pos: usize,
     matched: bool,

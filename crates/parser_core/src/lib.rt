@@ -1,5 +1,7 @@
 // The parser core for callers in C and Rust: `run` and `read_sheet` under C's calling convention, with the promises of those two. A
 // slice is passed as a pointer and a length. Nothing is asked of the lengths: what is too short or too long is refused by number.
+#![tactic(auto)]
+
 ghost use Rattle.std.specs.Prelude.{◌≡◌, length};
 ghost use Rattle.engine.specs.Conclude.{outcome_of};
 ghost use Rattle.reading.specs.Run.{input, Ran};
@@ -12,7 +14,7 @@ use sheet::sheet::read_sheet;
 // The engine's `Outcome`, laid out as C does: number, place, count. C goes by position, so the fields have positions and no names:
 // `returned` says which is which.
 #[repr(C)]
-#[derive(Drop)]
+#[derive(Clone, Copy)]
 pub struct ParserCoreOutcome(pub u32, pub u32, pub u32);
 
 fn handed_back(o: Outcome) -> ParserCoreOutcome

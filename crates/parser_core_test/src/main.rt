@@ -1,6 +1,8 @@
 // Calls the exported functions as C does, by position: the arguments in the order of rust/parser-core/include/parser_core.h, and the
 // outcome's fields by their places. A contract goes by names, so a declaration whose names change places is seen here, and by no proof of
 // parser_core.
+#![tactic(auto)]
+
 ghost use Rattle.std.specs.Prelude.{length};
 ghost use Rattle.engine.specs.Conclude.{outcome_of};
 ghost use Rattle.reading.specs.Run.{input, Ran};

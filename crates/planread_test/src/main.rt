@@ -1,5 +1,7 @@
 // Runs planread's work on the examples, and on small sheets that it writes itself, and writes each listing under a heading. Among these are
 // all numbers that planread can print: not 3, 8, 9 and 11, since its areas and limits are always good.
+#![tactic(auto)]
+
 mod print;
 
 use crate::print::{print_files, print_folder};

@@ -1,5 +1,5 @@
 // The limit that was reached (pest's `LimitKind`).
-#[derive(Drop)]
+#[derive(Clone, Copy)]
 pub enum LimitKind {
     Call,
     Stack,

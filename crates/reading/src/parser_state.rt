@@ -2,7 +2,7 @@
 // ends.
 
 // The current lookahead status (pest's `Lookahead`).
-#[derive(Drop)]
+#[derive(Clone, Copy)]
 pub enum Lookahead {
     Positive,
     Negative,
@@ -10,7 +10,7 @@ pub enum Lookahead {
 }
 
 // The current atomicity (pest's `Atomicity`).
-#[derive(Drop)]
+#[derive(Clone, Copy)]
 pub enum Atomicity {
     Atomic,
     CompoundAtomic,
@@ -18,7 +18,7 @@ pub enum Atomicity {
 }
 
 // Why a run stops for a reason that pest does not have, with the line that it reports: numbers 13 to 16.
-#[derive(Drop)]
+#[derive(Clone, Copy)]
 pub enum Cause {
     EmptyStack(u32),
     TokensFull(u32),
@@ -27,7 +27,7 @@ pub enum Cause {
 }
 
 // "Evaluation ends Ok, Err, or in a stop that names its cause." The state that Ok and Err left stands where it was lent.
-#[derive(Drop)]
+#[derive(Clone, Copy)]
 pub enum Ending {
     Ok,
     Err,

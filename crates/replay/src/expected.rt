@@ -2,7 +2,7 @@
 use crate::case::FILL;
 use crate::record::{COUNT, NEGATIVES, NUMBER, PLACE, POSITIVES, after, length_at, word};
 
-#[derive(Drop)]
+#[derive(Clone, Copy)]
 pub(crate) enum Area {
     Tokens,
     Report,

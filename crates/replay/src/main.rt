@@ -1,5 +1,7 @@
 // Replays the fixed list of answers (rust/README.md, "The binary form"): runs each recorded case and compares number, place, count and
 // both areas with the recorded ones, which are pest's wherever pest has an answer. Writes a line a file.
+#![tactic(auto)]
+
 mod case;
 mod expected;
 mod record;
@@ -11,7 +13,7 @@ use engine::state::Outcome;
 
 const OUT: i32 = 1;
 
-#[derive(Drop)]
+#[derive(Clone, Copy)]
 struct Tally {
     agree: usize,
     differ: usize,

@@ -10,7 +10,7 @@ use crate::record::{
 };
 use engine::state::{Outcome, run};
 
-#[derive(Drop)]
+#[derive(Clone, Copy)]
 pub(crate) enum Replayed {
     Agrees,
     Differs(Outcome),

@@ -4,13 +4,13 @@ ghost use Rattle.sheet.specs.Field.{behind_spaces, digit, decimal, natural, posi
 ghost use Rattle.sheet.specs.Answers.{digits_of, told, field_of};
 
 // A number read from digits, or that something else stands there.
-#[derive(Drop)]
+#[derive(Clone, Copy)]
 pub(crate) enum Digits {
     Value(u64),
     Other,
 }
 
-#[derive(Drop)]
+#[derive(Clone, Copy)]
 pub(crate) enum Field {
     Number(i32),
     Malformed,

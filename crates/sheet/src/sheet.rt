@@ -9,7 +9,7 @@ ghost use Rattle.sheet.specs.Answers.{field_of, line_of};
 use crate::field::{Field, read_field};
 use engine::state::Outcome;
 
-#[derive(Drop)]
+#[derive(Clone, Copy)]
 pub(crate) enum Line {
     Fields(i32, i32, i32, i32),
     Bad,

@@ -1,5 +1,7 @@
 // Runs read_sheet on good and broken sheets, and writes a line for each: its name, number, place and count, and the node area; then
 // listings, and run_sheet with the limits and areas that planread never has.
+#![tactic(auto)]
+
 use engine::state::Outcome;
 use files::run_sheet::run_sheet;
 use sheet::listing::write_listing;
