@@ -96,15 +96,15 @@ by_rows x _ (◌or_row◌ {f = f} {fs = gs} r rs) c e = go (fits f x) refl e (by
 table : (x : List ℕ) → Rows x utf8_char
 table x =
     form_one x
-    or-row form_two x
-    or-row form_three 0xE0 0xE0 0xA0 0xBF (omega arith) (omega arith) (omega arith) (omega arith) (omega arith) x
-    or-row form_three 0xE1 0xEC 0x80 0xBF (omega arith) (omega arith) (omega arith) (omega arith) (omega arith) x
-    or-row form_three 0xED 0xED 0x80 0x9F (omega arith) (omega arith) (omega arith) (omega arith) (omega arith) x
-    or-row form_three 0xEE 0xEF 0x80 0xBF (omega arith) (omega arith) (omega arith) (omega arith) (omega arith) x
-    or-row form_four 0xF0 0xF0 0x90 0xBF (omega arith) (omega arith) (omega arith) (omega arith) (omega arith) x
-    or-row form_four 0xF1 0xF3 0x80 0xBF (omega arith) (omega arith) (omega arith) (omega arith) (omega arith) x
-    or-row form_four 0xF4 0xF4 0x80 0x8F (omega arith) (omega arith) (omega arith) (omega arith) (omega arith) x
-    or-row no_row
+    or_row form_two x
+    or_row form_three 0xE0 0xE0 0xA0 0xBF (omega arith) (omega arith) (omega arith) (omega arith) (omega arith) x
+    or_row form_three 0xE1 0xEC 0x80 0xBF (omega arith) (omega arith) (omega arith) (omega arith) (omega arith) x
+    or_row form_three 0xED 0xED 0x80 0x9F (omega arith) (omega arith) (omega arith) (omega arith) (omega arith) x
+    or_row form_three 0xEE 0xEF 0x80 0xBF (omega arith) (omega arith) (omega arith) (omega arith) (omega arith) x
+    or_row form_four 0xF0 0xF0 0x90 0xBF (omega arith) (omega arith) (omega arith) (omega arith) (omega arith) x
+    or_row form_four 0xF1 0xF3 0x80 0xBF (omega arith) (omega arith) (omega arith) (omega arith) (omega arith) x
+    or_row form_four 0xF4 0xF4 0x80 0x8F (omega arith) (omega arith) (omega arith) (omega arith) (omega arith) x
+    or_row no_row
 
 pub form_of : (x : List ℕ) (c : Character) → decode x ≡ some c → Form x c.size c.value
 unfolding decode

@@ -578,15 +578,15 @@ module _ (g : Setting) (set : ℕ → Bool) (w : Tested g set) (lines : ℕ → 
 
   -- Demand 2, the second half: a match or a failure is what Ford's relation gives on the text's characters ..
   pub ford_at : (o : Option (List ℕ)) → Recognised g run o → Ford (rules_of g) (peg e) (characters_of g.text) o
-  ford_at o h = go o _ _ (run_sim g set w u depth limit e y z) (eval_means g set w lines v depth e p c y z (Pest.new limit) first_fit) h
+  ford_at o h = go _ o _ h (run_sim g set w u depth limit e y z) (eval_means g set w lines v depth e p c y z (Pest.new limit) first_fit)
     where
       first_fit : Fit g (Pest.new limit)
       first_fit = initial_fit g limit u
 
-      go : (o : Option (List ℕ)) (r : Ending State) (m : Ending ParserState) → Sim top [] (initial limit).lookahead (initial limit).atomicity (initial limit).siblings r m → Means g (peg e) (whole e) 0 none m → Recognised g r o
+      go : (r : Ending State) (o : Option (List ℕ)) (m : Ending ParserState) → Recognised g r o → Sim top [] (initial limit).lookahead (initial limit).atomicity (initial limit).siblings r m → Means g (peg e) (whole e) 0 none m
           → Ford (rules_of g) (peg e) (characters_of g.text) o
-      go o r m (sim_ok s q i j) (means_ok n k) (matched t b) = (k b).1
-      go o r m (sim_err s q i j) (means_err n k) (failed t b) = (k b).1
+      go r o m (matched s b) (sim_ok t q i j) (means_ok n k) = (k b).1
+      go r o m (failed s b) (sim_err t q i j) (means_err n k) = (k b).1
 
   -- .. and nothing else is.
   pub ford_only : (o : Option (List ℕ)) → Recognised g run o → (o' : Option (List ℕ)) → Ford (rules_of g) (peg e) (characters_of g.text) o' → o' ≡ o
