@@ -47,10 +47,10 @@ abbrev negated : ℤ → ℤ
 negated x = to_z w64 (of_z w64 (pos 0 -ℤ wide x))
 
 wide_is : (x : ℤ) → SFits w32 x → wide x ≡ x
-wide_is x f = rw (back x f) (to_z-of_z (sfits_widen tt f))
+wide_is x f = rw (back x f) (to_z-of_z {w = w64} (sfits_widen {w = w32} {w' = w64} tt f))
 
 pub wide_fits : (x : ℤ) → SFits w32 x → SFits w64 (to_z w32 (of_z w32 x))
-wide_fits x f = rw (back x f) (sfits_widen tt f)
+wide_fits x f = rw (back x f) (sfits_widen {w = w32} {w' = w64} tt f)
 
 pub minus_of : (x : ℤ) → SFits w32 x → lt_z (to_z w32 (of_z w32 x)) (pos 0) ≡ true → Minus x
 minus_of x f h = is_minus x (rw (back x f) at h)
