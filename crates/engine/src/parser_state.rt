@@ -100,7 +100,7 @@ fn terminal<'a>(
 
 // The line. `packed_node` is the one call that the compiler leaves in the cycle, and its number becomes the ending here, at each caller.
 // (`[..]`: a slice that is handed on as it is is copied in one piece, and the copy waits until its two words are written.)
-#[cycle(atomic_left_side_lookahead_node_optional_packed_node_repeat_restore_on_err_rule_sequence_simple_stack_push)]
+#[cycle(evaluation)]
 fn node<'a>(
     nodes: &[i32],
     literals: &'a [u8],
@@ -133,7 +133,7 @@ fn node<'a>(
 // right side as the loop's next line, so that no native stack is taken for it. (Each other function of the cycle but `node` has one
 // caller, so that the compiler makes one function of them all: an open call then takes one frame. This one has two, `node` and the run, so
 // that it is not made a part of `node`, which answers an enum.)
-#[cycle(atomic_left_side_lookahead_node_optional_packed_node_repeat_restore_on_err_rule_sequence_simple_stack_push)]
+#[cycle(evaluation)]
 pub(crate) fn packed_node<'a>(
     nodes: &[i32],
     literals: &'a [u8],
@@ -170,7 +170,7 @@ pub(crate) fn packed_node<'a>(
 
 // The left side of a fork: from its leftmost line up, each right side whose left side ended as its kind asks. Left sides below left sides
 // take no native stack. Another line is its own leftmost line.
-#[cycle(atomic_left_side_lookahead_node_optional_packed_node_repeat_restore_on_err_rule_sequence_simple_stack_push)]
+#[cycle(evaluation)]
 fn left_side<'a>(
     nodes: &[i32],
     literals: &'a [u8],
@@ -203,7 +203,7 @@ fn left_side<'a>(
 }
 
 // A line that is no fork.
-#[cycle(atomic_left_side_lookahead_node_optional_packed_node_repeat_restore_on_err_rule_sequence_simple_stack_push)]
+#[cycle(evaluation)]
 fn simple<'a>(
     nodes: &[i32],
     literals: &'a [u8],
@@ -238,7 +238,7 @@ fn simple<'a>(
 }
 
 // pest's `rule`.
-#[cycle(atomic_left_side_lookahead_node_optional_packed_node_repeat_restore_on_err_rule_sequence_simple_stack_push)]
+#[cycle(evaluation)]
 fn rule<'a>(
     nodes: &[i32],
     literals: &'a [u8],
@@ -275,7 +275,7 @@ fn rule<'a>(
 }
 
 // pest's `sequence`.
-#[cycle(atomic_left_side_lookahead_node_optional_packed_node_repeat_restore_on_err_rule_sequence_simple_stack_push)]
+#[cycle(evaluation)]
 fn sequence<'a>(
     nodes: &[i32],
     literals: &'a [u8],
@@ -304,7 +304,7 @@ fn sequence<'a>(
 }
 
 // pest's `repeat`. The body moves on Ok, so that the loop ends.
-#[cycle(atomic_left_side_lookahead_node_optional_packed_node_repeat_restore_on_err_rule_sequence_simple_stack_push)]
+#[cycle(evaluation)]
 fn repeat<'a>(
     nodes: &[i32],
     literals: &'a [u8],
@@ -339,7 +339,7 @@ fn repeat<'a>(
 }
 
 // pest's `optional`.
-#[cycle(atomic_left_side_lookahead_node_optional_packed_node_repeat_restore_on_err_rule_sequence_simple_stack_push)]
+#[cycle(evaluation)]
 fn optional<'a>(
     nodes: &[i32],
     literals: &'a [u8],
@@ -365,7 +365,7 @@ fn optional<'a>(
 }
 
 // pest's `lookahead`.
-#[cycle(atomic_left_side_lookahead_node_optional_packed_node_repeat_restore_on_err_rule_sequence_simple_stack_push)]
+#[cycle(evaluation)]
 fn lookahead<'a>(
     nodes: &[i32],
     literals: &'a [u8],
@@ -396,7 +396,7 @@ fn lookahead<'a>(
 }
 
 // pest's `atomic`.
-#[cycle(atomic_left_side_lookahead_node_optional_packed_node_repeat_restore_on_err_rule_sequence_simple_stack_push)]
+#[cycle(evaluation)]
 fn atomic<'a>(
     nodes: &[i32],
     literals: &'a [u8],
@@ -424,7 +424,7 @@ fn atomic<'a>(
 }
 
 // pest's `stack_push`.
-#[cycle(atomic_left_side_lookahead_node_optional_packed_node_repeat_restore_on_err_rule_sequence_simple_stack_push)]
+#[cycle(evaluation)]
 fn stack_push<'a>(
     nodes: &[i32],
     literals: &'a [u8],
@@ -451,7 +451,7 @@ fn stack_push<'a>(
 }
 
 // pest's `restore_on_err`: its entry is not counted.
-#[cycle(atomic_left_side_lookahead_node_optional_packed_node_repeat_restore_on_err_rule_sequence_simple_stack_push)]
+#[cycle(evaluation)]
 fn restore_on_err<'a>(
     nodes: &[i32],
     literals: &'a [u8],

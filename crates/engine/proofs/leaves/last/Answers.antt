@@ -1,0 +1,25 @@
+-- A leaf's match ends the walk; any other line is left to others.
+use mathlib.Core.Bool.{true, false}
+use native.Mathlib.Omega.{arith}
+use Rattle.reading.proofs.Accepted.{accepted}
+use Rattle.engine.proofs.LineSteps.{whole}
+use Rattle.engine.proofs.LeafSteps.{kind_low, first_onto, walked_halted, walked_done, last_ok, last_err}
+use Rattle.engine.proofs.leaves.last.Goals as goal
+
+pub line_at-n-requires : goal.line_at-n-requires
+line_at-n-requires c = whole _ _ (accepted _ _ c.requires.literals_value.0 c.requires.literals_value.1) _ c.requires.line
+
+pub returns-then-n-gt5 : goal.returns-then-n-gt5
+returns-then-n-gt5 c = λ capacity depth m f x. walked_halted _ _ _ capacity depth _ m _ _ _ c.halted.ensures (first_onto _ _ _ capacity depth _ m _ c.requires.line f x)
+
+pub leaf-requires-clause-literals_value : goal.leaf-requires-clause-literals_value
+leaf-requires-clause-literals_value c = c.requires.literals_value
+
+pub leaf-requires-clause-line : goal.leaf-requires-clause-line
+leaf-requires-clause-line c = (c.requires.line, kind_low _ _ _ c.line_at-n.ensures (omega (arith, c.if-n-gt5.false)))
+
+pub returns-in-At : goal.returns-in-At
+returns-in-At c = λ capacity depth m f x. walked_done _ _ _ capacity depth _ m _ _ _ true c.finished.ensures (last_ok _ _ _ _ (c.leaf.ensures capacity depth m f x) c.in-At.is)
+
+pub returns-in-Failed : goal.returns-in-Failed
+returns-in-Failed c = λ capacity depth m f x. walked_done _ _ _ capacity depth _ m _ _ _ false c.finished-in-Failed.ensures (last_err _ _ _ _ x (c.leaf.ensures capacity depth m f x) c.in-Failed.is)

@@ -1,0 +1,13 @@
+-- Only the stack of the state changed.
+use Rattle.reading.specs.Pest.{restore}
+use Rattle.engine.proofs.StateSteps.{stack_read, stack_changed}
+use Rattle.engine.proofs.stack_state.restored.Goals as goal
+
+pub restore-w-requires : goal.restore-w-requires
+restore-w-requires c = stack_read c.stack-v.ensures c.requires.state_ready
+
+pub returns-clause-by_index : goal.returns-clause-by_index
+returns-clause-by_index c = (stack_changed restore _ c.requires.state_ready c.stack-v.ensures c.restore-w.ensures c.set_stack.ensures).0
+
+pub returns-clause-outside_stack : goal.returns-clause-outside_stack
+returns-clause-outside_stack c = (stack_changed restore _ c.requires.state_ready c.stack-v.ensures c.restore-w.ensures c.set_stack.ensures).1
