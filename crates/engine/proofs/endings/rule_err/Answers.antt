@@ -9,12 +9,12 @@ use Rattle.engine.proofs.endings.rule_err.Goals as goal
 
 pub returns-in-Ok : goal.returns-in-Ok
 returns-in-Ok c = let s : ParserState = fields c.args.s.now in
-    λ g tokens. after_err g (not c.is_negative-due.result) c.args.line c.args.rule c.args.position.0 c.args.n (view tokens c.args.scratch.now s) tokens c.track_rule.new.0 (fields c.track_rule.new.1.0) c.track_rule.result _ c.in-Ok.is (c.track_rule.ensures.0 g tokens) c.args.index.0 _ (ap not (c.is_negative-due.ensures ∙ ap is_negative c.lookahead.ensures)) (ap Err (c.drop_rule.ensures tokens c.track_rule.new.0))
+    λ g tokens. after_err g (not c.is_negative-due.result) c.args.line c.args.rule c.args.position.0 c.args.n (view tokens c.args.scratch.now s) tokens c.track_rule.new.scratch (fields c.track_rule.new.s) c.track_rule.result _ c.in-Ok.is (c.track_rule.ensures.0 g tokens) c.args.index.0 _ (ap not (c.is_negative-due.ensures ∙ ap is_negative c.lookahead.ensures)) (ap Err (c.drop_rule.ensures tokens c.track_rule.new.scratch))
 
 pub returns-in-Err : goal.returns-in-Err
 returns-in-Err c = let s : ParserState = fields c.args.s.now in
-    λ g tokens. after_err g (not c.is_negative-due.result) c.args.line c.args.rule c.args.position.0 c.args.n (view tokens c.args.scratch.now s) tokens c.track_rule.new.0 (fields c.track_rule.new.1.0) c.track_rule.result _ c.in-Err.is (c.track_rule.ensures.0 g tokens) c.args.index.0 _ (ap not (c.is_negative-due.ensures ∙ ap is_negative c.lookahead.ensures)) refl
+    λ g tokens. after_err g (not c.is_negative-due.result) c.args.line c.args.rule c.args.position.0 c.args.n (view tokens c.args.scratch.now s) tokens c.track_rule.new.scratch (fields c.track_rule.new.s) c.track_rule.result _ c.in-Err.is (c.track_rule.ensures.0 g tokens) c.args.index.0 _ (ap not (c.is_negative-due.ensures ∙ ap is_negative c.lookahead.ensures)) refl
 
 pub returns-in-Stop : goal.returns-in-Stop
 returns-in-Stop c = let s : ParserState = fields c.args.s.now in
-    λ g tokens. after_err g (not c.is_negative-due.result) c.args.line c.args.rule c.args.position.0 c.args.n (view tokens c.args.scratch.now s) tokens c.track_rule.new.0 (fields c.track_rule.new.1.0) c.track_rule.result _ c.in-Stop.is (c.track_rule.ensures.0 g tokens) c.args.index.0 _ (ap not (c.is_negative-due.ensures ∙ ap is_negative c.lookahead.ensures)) refl
+    λ g tokens. after_err g (not c.is_negative-due.result) c.args.line c.args.rule c.args.position.0 c.args.n (view tokens c.args.scratch.now s) tokens c.track_rule.new.scratch (fields c.track_rule.new.s) c.track_rule.result _ c.in-Stop.is (c.track_rule.ensures.0 g tokens) c.args.index.0 _ (ap not (c.is_negative-due.ensures ∙ ap is_negative c.lookahead.ensures)) refl

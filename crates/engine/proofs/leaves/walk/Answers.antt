@@ -1,4 +1,6 @@
 -- The invariant: from the line and the position so far, the evaluation comes to what it comes to from the first line.
+use mathlib.Core.Path.{ap}
+use mathlib.Core.Bool.{not}
 use mathlib.Core.Path.{refl}
 use mathlib.Core.Logic.{⊎_elim}
 use mathlib.Core.Bool.{true, false}
@@ -6,17 +8,9 @@ use native.Mathlib.Omega.{arith}
 use borrow.Author.Tests.{not-false}
 use Rattle.reading.specs.Pest.{set_position}
 use Rattle.reading.proofs.Accepted.{Accepted, accepted}
-use Rattle.engine.specs.Spine.{Fork}
 use Rattle.engine.proofs.LineSteps.{whole}
 use Rattle.engine.proofs.LeafSteps.{kind_low, first_onto, walked_halted, walked_done, last_ok, last_err, right_in, left_line, right_line, on_right, over_right, done_ok, done_err, walked_on}
 use Rattle.engine.proofs.leaves.walk.Goals as goal
-
--- The line is a fork of an accepted grammar.
-w : Accepted c.before.before.before.before.before.before.args.nodes.now c.before.before.before.before.before.before.args.literals.now
-w = let S = c.before.before.before.before.before.before in accepted _ _ S.requires.0.0 S.requires.0.1
-
-fork : Fork c.before.before.line_at.result.kind
-fork = c.before.is_fork.ensures.0 (not-false _ c.if1.false)
 
 pub loop-n-init : goal.loop-n-init
 loop-n-init c = (c.requires.line, λ capacity d m f x. first_onto _ _ _ capacity d _ m _ c.requires.line f x)
@@ -34,7 +28,7 @@ pub returns-then-not-is_fork : goal.returns-then-not-is_fork
 returns-then-not-is_fork c = λ capacity d m f x. walked_on _ _ _ capacity d _ m _ _ (c.loop-n.invariant.1 capacity d m f x) _ (c.last.ensures capacity d (set_position c.loop-n.position.0 m) (c.loop-n.invariant.1 capacity d m f x).fit refl)
 
 pub line_at-m-requires : goal.line_at-m-requires
-line_at-m-requires c = whole _ _ (w c) _ (left_line _ _ (w c) _ c.loop-n.invariant.0 _ c.line_at-n.ensures (fork c))
+line_at-m-requires c = whole _ _ (accepted _ _ c.requires.literals_value.0 c.requires.literals_value.1) _ (left_line _ _ (accepted _ _ c.requires.literals_value.0 c.requires.literals_value.1) _ c.loop-n.invariant.0 _ c.line_at-n.ensures ((c.is_fork.ensures.0 (not-false _ (ap not c.if-not-is_fork.false)))))
 
 pub returns-then-m-gt5 : goal.returns-then-m-gt5
 returns-then-m-gt5 c = λ capacity d m f x. walked_halted _ _ _ capacity d _ m _ _ _ c.halted.ensures (c.loop-n.invariant.1 capacity d m f x)
@@ -43,22 +37,22 @@ pub leaf-requires-clause-literals_value : goal.leaf-requires-clause-literals_val
 leaf-requires-clause-literals_value c = c.requires.literals_value
 
 pub leaf-requires-clause-line : goal.leaf-requires-clause-line
-leaf-requires-clause-line c = (left_line _ _ (w c) _ c.loop-n.invariant.0 _ c.line_at-n.ensures (fork c), kind_low _ _ _ c.line_at-m.ensures (omega (arith, c.if-m-gt5.false)))
+leaf-requires-clause-line c = (left_line _ _ (accepted _ _ c.requires.literals_value.0 c.requires.literals_value.1) _ c.loop-n.invariant.0 _ c.line_at-n.ensures ((c.is_fork.ensures.0 (not-false _ (ap not c.if-not-is_fork.false)))), kind_low _ _ _ c.line_at-m.ensures (omega (arith, c.if-m-gt5.false)))
 
 pub returns-then-n-eq7 : goal.returns-then-n-eq7
-returns-then-n-eq7 c = λ capacity d m f x. let o = c.loop-n.invariant.1 capacity d m f x in walked_done _ _ _ capacity d _ m _ _ _ true c.finished.ensures (done_ok _ _ (w c) _ c.loop-n.invariant.0 _ c.line_at-n.ensures (fork c) _ capacity d _ m _ o (λ k. omega (arith, k, c.if-n-eq7.true)) _ (last_ok _ (set_position c.loop-n.position.0 m) _ _ (c.leaf.ensures capacity d (set_position c.loop-n.position.0 m) o.fit refl) c.in-At.is))
+returns-then-n-eq7 c = λ capacity d m f x. let o = c.loop-n.invariant.1 capacity d m f x in walked_done _ _ _ capacity d _ m _ _ _ true c.finished.ensures (done_ok _ _ (accepted _ _ c.requires.literals_value.0 c.requires.literals_value.1) _ c.loop-n.invariant.0 _ c.line_at-n.ensures ((c.is_fork.ensures.0 (not-false _ (ap not c.if-not-is_fork.false)))) _ capacity d _ m _ o (λ k. omega (arith, k, c.if-n-eq7.true)) _ (last_ok _ (set_position c.loop-n.position.0 m) _ _ (c.leaf.ensures capacity d (set_position c.loop-n.position.0 m) o.fit refl) c.in-At.is))
 
 pub returns-then-n-eq6 : goal.returns-then-n-eq6
-returns-then-n-eq6 c = λ capacity d m f x. let o = c.loop-n.invariant.1 capacity d m f x in walked_done _ _ _ capacity d _ m _ _ _ false c.finished-then-n-eq6.ensures (done_err _ _ (w c) _ c.loop-n.invariant.0 _ c.line_at-n.ensures (fork c) _ capacity d _ m _ o c.if-n-eq6.true (last_err _ (set_position c.loop-n.position.0 m) _ _ refl (c.leaf.ensures capacity d (set_position c.loop-n.position.0 m) o.fit refl) c.in-Failed.is))
+returns-then-n-eq6 c = λ capacity d m f x. let o = c.loop-n.invariant.1 capacity d m f x in walked_done _ _ _ capacity d _ m _ _ _ false c.finished-then-n-eq6.ensures (done_err _ _ (accepted _ _ c.requires.literals_value.0 c.requires.literals_value.1) _ c.loop-n.invariant.0 _ c.line_at-n.ensures ((c.is_fork.ensures.0 (not-false _ (ap not c.if-not-is_fork.false)))) _ capacity d _ m _ o c.if-n-eq6.true (last_err _ (set_position c.loop-n.position.0 m) _ _ refl (c.leaf.ensures capacity d (set_position c.loop-n.position.0 m) o.fit refl) c.in-Failed.is))
 
 pub loop-n-smaller-else-n-eq7 : goal.loop-n-smaller-else-n-eq7
-loop-n-smaller-else-n-eq7 c = (right_in _ _ (w c) _ c.loop-n.invariant.0 _ c.line_at-n.ensures (fork c)).1
+loop-n-smaller-else-n-eq7 c = (right_in _ _ (accepted _ _ c.requires.literals_value.0 c.requires.literals_value.1) _ c.loop-n.invariant.0 _ c.line_at-n.ensures ((c.is_fork.ensures.0 (not-false _ (ap not c.if-not-is_fork.false))))).1
 
 pub loop-n-preserved-else-n-eq7 : goal.loop-n-preserved-else-n-eq7
-loop-n-preserved-else-n-eq7 c = (right_line _ _ (w c) _ c.loop-n.invariant.0 _ c.line_at-n.ensures (fork c), λ capacity d m f x. let o = c.loop-n.invariant.1 capacity d m f x in on_right _ _ (w c) _ c.loop-n.invariant.0 _ c.line_at-n.ensures (fork c) _ capacity d _ m _ o (⊎_elim (λ k. k) (λ k. absurd (c.if-n-eq7.false k)) (fork c)) _ (last_ok _ (set_position c.loop-n.position.0 m) _ _ (c.leaf.ensures capacity d (set_position c.loop-n.position.0 m) o.fit refl) c.in-At.is))
+loop-n-preserved-else-n-eq7 c = (right_line _ _ (accepted _ _ c.requires.literals_value.0 c.requires.literals_value.1) _ c.loop-n.invariant.0 _ c.line_at-n.ensures ((c.is_fork.ensures.0 (not-false _ (ap not c.if-not-is_fork.false)))), λ capacity d m f x. let o = c.loop-n.invariant.1 capacity d m f x in on_right _ _ (accepted _ _ c.requires.literals_value.0 c.requires.literals_value.1) _ c.loop-n.invariant.0 _ c.line_at-n.ensures ((c.is_fork.ensures.0 (not-false _ (ap not c.if-not-is_fork.false)))) _ capacity d _ m _ o (⊎_elim (λ k. k) (λ k. absurd (c.if-n-eq7.false k)) ((c.is_fork.ensures.0 (not-false _ (ap not c.if-not-is_fork.false))))) _ (last_ok _ (set_position c.loop-n.position.0 m) _ _ (c.leaf.ensures capacity d (set_position c.loop-n.position.0 m) o.fit refl) c.in-At.is))
 
 pub loop-n-smaller : goal.loop-n-smaller
-loop-n-smaller c = (right_in _ _ (w c) _ c.loop-n.invariant.0 _ c.line_at-n.ensures (fork c)).1
+loop-n-smaller c = (right_in _ _ (accepted _ _ c.requires.literals_value.0 c.requires.literals_value.1) _ c.loop-n.invariant.0 _ c.line_at-n.ensures ((c.is_fork.ensures.0 (not-false _ (ap not c.if-not-is_fork.false))))).1
 
 pub loop-n-preserved : goal.loop-n-preserved
-loop-n-preserved c = (right_line _ _ (w c) _ c.loop-n.invariant.0 _ c.line_at-n.ensures (fork c), λ capacity d m f x. let o = c.loop-n.invariant.1 capacity d m f x in over_right _ _ (w c) _ c.loop-n.invariant.0 _ c.line_at-n.ensures (fork c) _ capacity d _ m _ o c.if-n-eq6.false (last_err _ (set_position c.loop-n.position.0 m) _ _ refl (c.leaf.ensures capacity d (set_position c.loop-n.position.0 m) o.fit refl) c.in-Failed.is))
+loop-n-preserved c = (right_line _ _ (accepted _ _ c.requires.literals_value.0 c.requires.literals_value.1) _ c.loop-n.invariant.0 _ c.line_at-n.ensures ((c.is_fork.ensures.0 (not-false _ (ap not c.if-not-is_fork.false)))), λ capacity d m f x. let o = c.loop-n.invariant.1 capacity d m f x in over_right _ _ (accepted _ _ c.requires.literals_value.0 c.requires.literals_value.1) _ c.loop-n.invariant.0 _ c.line_at-n.ensures ((c.is_fork.ensures.0 (not-false _ (ap not c.if-not-is_fork.false)))) _ capacity d _ m _ o c.if-n-eq6.false (last_err _ (set_position c.loop-n.position.0 m) _ _ refl (c.leaf.ensures capacity d (set_position c.loop-n.position.0 m) o.fit refl) c.in-Failed.is))

@@ -10,29 +10,29 @@ use Rattle.engine.proofs.stack_state.stack_match_peek_slice.Goals as goal
 
 pub returns-in_default : goal.returns-in_default
 returns-in_default c = start_out c.args.text.now c.args.scratch.now c.args.a c.args.b c.args.c (fields c.args.s.now) _ c.stack-v.ensures
-    _ (c.normalize_index.ensures ∙ ap (λ (z : ℤ). index_of (index_in c.stack-v.result.height z)) (back _ c.??ranges.a)) c.in_default.is
+    _ (c.normalize_index.ensures ∙ ap (λ (z : ℤ). index_of (index_in c.stack-v.result.height z)) (back _ c.ranges.a)) c.in_default.is
 
 pub returns-in_default-normalize_end : goal.returns-in_default-normalize_end
 returns-in_default-normalize_end c = end_out c.args.text.now c.args.scratch.now c.args.a c.args.b c.args.c (fields c.args.s.now) _ c.stack-v.ensures
-    _ (c.normalize_index.ensures ∙ ap (λ (z : ℤ). index_of (index_in c.stack-v.result.height z)) (back _ c.??ranges.a)) _ c.in-At.is
-    _ (c.normalize_end.ensures ∙ ap (λ (z : ℤ). index_of (end_in c.stack-v.result.height (end_of c.args.c z))) (back _ c.??ranges.b)) c.in_default-normalize_end.is
+    _ (c.normalize_index.ensures ∙ ap (λ (z : ℤ). index_of (index_in c.stack-v.result.height z)) (back _ c.ranges.a)) _ c.in-At.is
+    _ (c.normalize_end.ensures ∙ ap (λ (z : ℤ). index_of (end_in c.stack-v.result.height (end_of c.args.c z))) (back _ c.ranges.b)) c.in_default-normalize_end.is
 
 pub returns-then-end-start : goal.returns-then-end-start
 returns-then-end-start c = slice_empty c.args.text.now c.args.scratch.now c.args.a c.args.b c.args.c (fields c.args.s.now) _ c.stack-v.ensures
-    _ (c.normalize_index.ensures ∙ ap (λ (z : ℤ). index_of (index_in c.stack-v.result.height z)) (back _ c.??ranges.a)) _ c.in-At.is
-    _ (c.normalize_end.ensures ∙ ap (λ (z : ℤ). index_of (end_in c.stack-v.result.height (end_of c.args.c z))) (back _ c.??ranges.b)) _ c.in-At-normalize_end.is
+    _ (c.normalize_index.ensures ∙ ap (λ (z : ℤ). index_of (index_in c.stack-v.result.height z)) (back _ c.ranges.a)) _ c.in-At.is
+    _ (c.normalize_end.ensures ∙ ap (λ (z : ℤ). index_of (end_in c.stack-v.result.height (end_of c.args.c z))) (back _ c.ranges.b)) _ c.in-At-normalize_end.is
     c.if-end-start.true
 
 pub match_slice-requires : goal.match_slice-requires
 match_slice-requires c = (
       rw c.stack-v.ensures c.requires.stack_ready,
       end_below c.args.text.now c.args.scratch.now c.args.a c.args.b c.args.c (fields c.args.s.now) _ c.stack-v.ensures
-          _ (c.normalize_index.ensures ∙ ap (λ (z : ℤ). index_of (index_in c.stack-v.result.height z)) (back _ c.??ranges.a)) _ c.in-At.is
-          _ (c.normalize_end.ensures ∙ ap (λ (z : ℤ). index_of (end_in c.stack-v.result.height (end_of c.args.c z))) (back _ c.??ranges.b)) _ c.in-At-normalize_end.is,
+          _ (c.normalize_index.ensures ∙ ap (λ (z : ℤ). index_of (index_in c.stack-v.result.height z)) (back _ c.ranges.a)) _ c.in-At.is
+          _ (c.normalize_end.ensures ∙ ap (λ (z : ℤ). index_of (end_in c.stack-v.result.height (end_of c.args.c z))) (back _ c.ranges.b)) _ c.in-At-normalize_end.is,
     )
 
 pub returns : goal.returns
 returns c = slice_moved c.args.text.now c.args.scratch.now c.args.a c.args.b c.args.c (fields c.args.s.now) _ c.stack-v.ensures
-    _ (c.normalize_index.ensures ∙ ap (λ (z : ℤ). index_of (index_in c.stack-v.result.height z)) (back _ c.??ranges.a)) _ c.in-At.is
-    _ (c.normalize_end.ensures ∙ ap (λ (z : ℤ). index_of (end_in c.stack-v.result.height (end_of c.args.c z))) (back _ c.??ranges.b)) _ c.in-At-normalize_end.is
+    _ (c.normalize_index.ensures ∙ ap (λ (z : ℤ). index_of (index_in c.stack-v.result.height z)) (back _ c.ranges.a)) _ c.in-At.is
+    _ (c.normalize_end.ensures ∙ ap (λ (z : ℤ). index_of (end_in c.stack-v.result.height (end_of c.args.c z))) (back _ c.ranges.b)) _ c.in-At-normalize_end.is
     c.if-end-start.false _ c.is_top_down-down.ensures c.position-p.ensures _ c.match_slice.ensures _ c.moved.result c.moved.ensures
