@@ -61,13 +61,13 @@ met c =
     let text = c.args.text.now in
     let at = c.entries.at in
     elim c.if-h-eq0.branch [
-      then-h-eq0 w ↦ met_empty g w.if-h-eq0.true w.scratch-is w.t-is w.matched-is
-    | else-h-eq0+in-Got+then-not-has_room w ↦
-        met_failed g w.if-h-eq0.false w.pop.result (w.pop.ensures.result_after, w.pop.ensures.outside_stack) w.in-Got.is w.as_bytes-bytes.ensures
-        (bytes_short text w.as_bytes-bytes.result.now at _ w.has_room.ensures (ap not w.if-not-has_room.true)) w.scratch-is w.t-is w.matched-is
-    | else-h-eq0+in-Got+else-not-has_room+then-loop-i-test+then-text-at w ↦
-        met_failed g w.if-h-eq0.false w.pop.result (w.pop.ensures.result_after, w.pop.ensures.outside_stack) w.in-Got.is w.as_bytes-bytes.ensures
-        (bytes_differ text w.as_bytes-bytes.result.now at _ w.loop-i.invariant (bytes_fit text w.as_bytes-bytes.result.now at _ w.has_room.ensures (ap not w.if-not-has_room.false)) w.loop-i-test.true w.if-text-at.true) w.scratch-is w.t-is w.matched-is
+      | then-h-eq0 w ↦ met_empty g w.if-h-eq0.true w.scratch-is w.t-is w.matched-is
+      | else-h-eq0+in-Got+then-not-has_room w ↦
+          met_failed g w.if-h-eq0.false w.pop.result (w.pop.ensures.result_after, w.pop.ensures.outside_stack) w.in-Got.is w.as_bytes-bytes.ensures
+          (bytes_short text w.as_bytes-bytes.result.now at _ w.has_room.ensures (ap not w.if-not-has_room.true)) w.scratch-is w.t-is w.matched-is
+      | else-h-eq0+in-Got+else-not-has_room+then-loop-i-test+then-text-at w ↦
+          met_failed g w.if-h-eq0.false w.pop.result (w.pop.ensures.result_after, w.pop.ensures.outside_stack) w.in-Got.is w.as_bytes-bytes.ensures
+          (bytes_differ text w.as_bytes-bytes.result.now at _ w.loop-i.invariant (bytes_fit text w.as_bytes-bytes.result.now at _ w.has_room.ensures (ap not w.if-not-has_room.false)) w.loop-i-test.true w.if-text-at.true) w.scratch-is w.t-is w.matched-is
     ]
 
 pub returns-then-matched-clause-by_index : goal.returns-then-matched-clause-by_index

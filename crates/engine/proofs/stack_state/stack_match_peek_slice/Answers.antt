@@ -25,11 +25,11 @@ returns-then-end-start c = slice_empty c.args.text.now c.args.scratch.now c.args
 
 pub match_slice-requires : goal.match_slice-requires
 match_slice-requires c = (
-      rw c.stack-v.ensures c.requires.stack_ready,
-      end_below c.args.text.now c.args.scratch.now c.args.a c.args.b c.args.c (fields c.args.s.now) _ c.stack-v.ensures
-          _ (c.normalize_index.ensures ∙ ap (λ (z : ℤ). index_of (index_in c.stack-v.result.height z)) (back _ c.ranges.a)) _ c.in-At.is
-          _ (c.normalize_end.ensures ∙ ap (λ (z : ℤ). index_of (end_in c.stack-v.result.height (end_of c.args.c z))) (back _ c.ranges.b)) _ c.in-At-normalize_end.is,
-    )
+  rw c.stack-v.ensures c.requires.stack_ready,
+  end_below c.args.text.now c.args.scratch.now c.args.a c.args.b c.args.c (fields c.args.s.now) _ c.stack-v.ensures
+      _ (c.normalize_index.ensures ∙ ap (λ (z : ℤ). index_of (index_in c.stack-v.result.height z)) (back _ c.ranges.a)) _ c.in-At.is
+      _ (c.normalize_end.ensures ∙ ap (λ (z : ℤ). index_of (end_in c.stack-v.result.height (end_of c.args.c z))) (back _ c.ranges.b)) _ c.in-At-normalize_end.is,
+)
 
 pub returns : goal.returns
 returns c = slice_moved c.args.text.now c.args.scratch.now c.args.a c.args.b c.args.c (fields c.args.s.now) _ c.stack-v.ensures
