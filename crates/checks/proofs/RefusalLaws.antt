@@ -12,7 +12,6 @@ use borrow.Author.Tests.{le-leb, lt-leb, eqb-true}
 use Rattle.matching.specs.Utf8.{within, is_utf8}
 use Rattle.matching.proofs.Lead.{and_left, and_right, within_true}
 use Rattle.checks.specs.declared.grammar.Fault.{Fault}
-use Rattle.checks.specs.declared.grammar.Fault.TheVariants as Fault
 use Rattle.checks.specs.declared.grammar.Refused.{Refused}
 use Rattle.checks.specs.declared.grammar.Refused.TheVariants.{No, By}
 use Rattle.reading.specs.Grammar.{line_count, misfit}

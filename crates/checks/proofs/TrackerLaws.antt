@@ -8,7 +8,6 @@ use native.Mathlib.Numerals.{add-one}
 use lib.Dec.{leb}
 use borrow.Author.Tests.{leb-false}
 use Rattle.reading.specs.declared.call_limit_tracker.LimitKind.{LimitKind}
-use Rattle.reading.specs.declared.call_limit_tracker.LimitKind.TheVariants as LimitKind
 use Rattle.checks.specs.declared.call_limit_tracker.LimitReached.{LimitReached}
 use Rattle.checks.specs.declared.call_limit_tracker.LimitReached.TheVariants as Reached
 use Rattle.checks.specs.declared.call_limit_tracker.CallLimitTracker.{CallLimitTracker}

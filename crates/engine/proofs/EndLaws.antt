@@ -16,7 +16,7 @@ use Rattle.reading.specs.declared.parser_state.Atomicity.{Atomicity}
 use Rattle.reading.specs.declared.parser_state.Ending as Declared
 use Rattle.reading.specs.declared.parser_state.Ending.TheVariants as Variants
 use Rattle.engine.specs.Fields as Code
-use Rattle.reading.specs.Ending.{if◌then◌else◌, Ok, Err, Stop}
+use Rattle.reading.specs.Ending.{if◌then◌else◌, Ok, Err}
 use Rattle.reading.specs.Pest.{ParserState, QueueableToken, set_position, set_queue, set_lookahead, limit_reached, moved}
 use Rattle.engine.specs.Areas.{view, view_end, queue_of}
 use Rattle.engine.specs.StackReady.{StateReady}

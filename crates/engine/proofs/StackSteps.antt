@@ -17,7 +17,7 @@ use Rattle.reading.specs.Reading.{debt}
 use Rattle.reading.specs.Pest.{snapshot, clear_snapshot, restore, truncate}
 use Rattle.engine.specs.Areas.{pairs, span, checkpoint, stack_of, Outside}
 use Rattle.engine.specs.Pairs.{pair, put, drained, refilled}
-use Rattle.engine.specs.Bounded.{Push, kept, Take, got, empty, pushed, taken, taken_from}
+use Rattle.engine.specs.Bounded.{Push, kept, Take, got, pushed, taken, taken_from}
 use Rattle.reading.specs.Sound.{Fits, fits_one}
 use Rattle.engine.specs.StackReady.{StackReady, OutsideStack}
 use Rattle.reading.proofs.StackLaws.{pest}

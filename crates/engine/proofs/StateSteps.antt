@@ -10,16 +10,11 @@ use lib.IntN.{ℤ, pos, negsuc}
 use lib.ListN.{length}
 use lib.Dec.{ltb, leb, eqb}
 use borrow.Author.Tests.{le-leb, lt-leb, ltb-false, le-ltb}
-use Rattle.matching.specs.declared.position.Matched.TheVariants as Matched
 use Rattle.matching.specs.declared.span.Span as Code
 use Rattle.matching.specs.Answers.{matched}
 use Rattle.matching.specs.Position.{match_string, bytes_of}
 use Rattle.matching.specs.declared.position.BytePosition.{BytePosition}
 use Rattle.matching.specs.declared.position.Matched.{Matched}
-use Rattle.engine.specs.declared.stack.Pushed.TheVariants as Pushed
-use Rattle.engine.specs.declared.stack.Popped.TheVariants as Popped
-use Rattle.checks.specs.declared.node.Index.TheVariants as Index
-use Rattle.engine.specs.declared.stack_match.MatchPopped.TheVariants as MatchPopped
 use Rattle.reading.specs.declared.parser_state.Ending as Code·ending
 use Rattle.reading.specs.Pest as Pest
 use Rattle.engine.specs.declared.stack.Stack.{Stack}

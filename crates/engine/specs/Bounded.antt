@@ -2,9 +2,7 @@
 -- answers stand for it.
 use Rattle.std.specs.Prelude.{List, [], ◌∷◌, ℕ, length, leb, ltb}
 use Rattle.engine.specs.declared.stack.Pushed.{Pushed}
-use Rattle.engine.specs.declared.stack.Pushed.TheVariants as Pushed
 use Rattle.engine.specs.declared.stack.Popped.{Popped}
-use Rattle.engine.specs.declared.stack.Popped.TheVariants as Popped
 use Rattle.reading.specs.Ending.{if◌then◌else◌, Span}
 use Rattle.reading.specs.Reading.{most_entries, most_debt, debt}
 use Rattle.reading.specs.Pest as Pest

@@ -1,5 +1,5 @@
 -- What the functions over an ending ask of it, and the two that say it more shortly than pest.
-use Rattle.std.specs.Prelude.{Bool, true, false, List, ℕ, ◌≤◌}
+use Rattle.std.specs.Prelude.{Bool, List, ℕ, ◌≤◌}
 use Rattle.matching.specs.declared.position.BytePosition.{BytePosition}
 use Rattle.reading.specs.declared.parser_state.Atomicity.{Atomicity}
 use Rattle.reading.specs.declared.parser_state.Ending as Declared

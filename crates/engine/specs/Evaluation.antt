@@ -1,6 +1,6 @@
 -- What each function of the evaluation asks and answers: one equation with pest's evaluation, through the abstraction of Areas.
-use Rattle.std.specs.Prelude.{◌≡◌, Bool, true, false, ◌||◌, List, ℕ, ◌+◌, ◌*◌, ◌≤◌, eqb, ℤ, length}
-use Rattle.std.proofs.Math.Option.{Option, none}
+use Rattle.std.specs.Prelude.{◌≡◌, Bool, true, ◌||◌, List, ℕ, ◌+◌, ◌*◌, ◌≤◌, eqb, ℤ, length}
+use Rattle.std.proofs.Math.Option.{none}
 use Rattle.matching.specs.Utf8.{within}
 use Rattle.reading.specs.Ending.{Ending}
 use Rattle.reading.specs.Grammar.{Exp, line_count, misfit, rule_at}

@@ -2,10 +2,8 @@
 use Rattle.std.specs.Prelude.{Bool, List, ℕ, ◌+◌, ◌*◌, ◌-◌, get_or}
 use Rattle.std.proofs.Math.Option.{Option, none, some}
 use Rattle.matching.specs.declared.position.Matched.{Matched}
-use Rattle.matching.specs.declared.position.Matched.TheVariants as Matched
 use Rattle.engine.specs.declared.stack_match.Next.{Next}
 use Rattle.engine.specs.declared.stack_match.MatchPopped.{MatchPopped}
-use Rattle.engine.specs.declared.stack_match.MatchPopped.TheVariants as MatchPopped
 use Rattle.reading.specs.declared.parser_state.Cause.TheVariants.{StackFull}
 use Rattle.reading.specs.Ending.{if◌then◌else◌, Ending, Ok, Err, Stop, Span}
 use Rattle.reading.specs.Pest.{ParserState, set_position, set_stack}

@@ -1,8 +1,8 @@
 -- The queue as the code writes it: five numbers a token, and what each writer promises of them.
-use Rattle.std.specs.Prelude.{◌≡◌, List, [], ◌∷◌, ◌++◌, ℕ, ◌+◌, ◌-◌, ◌*◌, ◌<◌, length, get_or, set}
+use Rattle.std.specs.Prelude.{◌≡◌, List, [], ◌∷◌, ◌++◌, ℕ, ◌+◌, ◌-◌, ◌*◌, ◌<◌, get_or, set}
 use Rattle.reading.specs.Forest.{Token}
 use Rattle.reading.specs.Answer.{token_of}
-use Rattle.reading.specs.Pest.{QueueableToken, Start, End, with_end, tag_last}
+use Rattle.reading.specs.Pest.{QueueableToken, Start, with_end, tag_last}
 use Rattle.engine.specs.Areas.{Outside, token_at, queue_of}
 
 -- The five numbers that stand at an index.

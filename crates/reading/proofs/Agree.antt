@@ -1,39 +1,37 @@
 -- A run of the reading answers what pest with document 01's stops comes to, and, where it does not stop, what pest's `state` gives:
 -- the simulation at the first state, and sorting without duplicates said in two ways.
-use mathlib.Core.Path.{◌≡◌, refl, sym, ap, ap₂, ◌∙◌, subst}
+use mathlib.Core.Path.{◌≡◌, refl, sym, ap, ◌∙◌}
 use mathlib.Core.Bool.{Bool, true, false}
 use mathlib.Core.Option.{Option, none, some}
-use mathlib.Core.List.{List, [], ◌∷◌, ◌++◌, map}
+use mathlib.Core.List.{List, [], ◌∷◌}
 use mathlib.Core.Logic.{◌≢◌}
-use Prim.Native.Nat.{ℕ, zero, suc, ◌+◌, ◌≤◌, ◌<◌}
+use Prim.Native.Nat.{ℕ, zero, suc, ◌≤◌, ◌<◌}
 use native.Mathlib.Omega.{arith}
-use lib.ListN.{length}
 use lib.Dec.{eqb, ltb, leb}
 use borrow.Author.Tests.{eqb-true, eqb-false, ltb-true, leb-true, leb-false, lt-ltb, le-ltb, ne_eqb}
 use Rattle.matching.specs.Utf8.{Utf8}
 use Rattle.reading.specs.declared.parser_state.Lookahead.{Lookahead}
 use Rattle.reading.specs.declared.parser_state.Atomicity.{Atomicity}
-use Rattle.reading.specs.declared.parser_state.Cause.{Cause}
 use Rattle.reading.specs.declared.call_limit_tracker.LimitKind.{LimitKind}
-use Rattle.reading.specs.Ending.{if◌then◌else◌, Ending, Ok, Err, Stop}
+use Rattle.reading.specs.Ending.{Ending, Ok, Err}
 use Rattle.reading.specs.Grammar.{Exp}
-use Rattle.reading.specs.Forest.{Forest, empty, add, size, Token, start_token, end_token, tokens_from, tokens}
+use Rattle.reading.specs.Forest.{Forest, Token, tokens}
 use Rattle.reading.specs.Reading as Reading
 use Rattle.reading.specs.Reading.{Setting, State, initial}
-use Rattle.reading.specs.Outcome.{Answer, answer, of_tokens, of_limit, of_failure, of_cause, insert, ascending}
+use Rattle.reading.specs.Outcome.{Answer, answer, of_tokens, of_limit, of_failure, insert, ascending}
 use Rattle.reading.specs.Answer.{tokens_of}
 use Rattle.reading.specs.Answer.{pest_answer, answer_to}
 use Rattle.reading.specs.Pest as Pest
 use Rattle.reading.specs.Pest.{ParserState, QueueableToken, Start, End, Result, Pairs, CustomError, ParsingError, Panic, sort_in, sort, dedup_in, dedup, state}
-use Rattle.reading.specs.Sound.{Sound, fits_none}
-use Rattle.reading.proofs.Trees.{Literals, still, Steady}
+use Rattle.reading.specs.Sound.{fits_none}
+use Rattle.reading.proofs.Trees.{Literals, Steady}
 use Rattle.reading.proofs.StackLaws.{bottom}
 use Rattle.reading.proofs.QueueLaws.{queue_from, top}
 use Rattle.reading.proofs.AnswerLaws.{queue_tokens}
 use Rattle.reading.specs.Fit.{Fit}
 use Rattle.reading.proofs.Invariant.{Tested}
-use Rattle.reading.proofs.Simulation.{Sim, sim_ok, sim_err, sim_stop, eval_sim, pest_of, Good}
-use Rattle.reading.proofs.Unbounded.{Freed, freed, freed_stop, eval_frees}
+use Rattle.reading.proofs.Simulation.{Sim, sim_ok, sim_err, sim_stop, eval_sim, pest_of}
+use Rattle.reading.proofs.Unbounded.{Freed, freed, eval_frees}
 use Rattle.reading.proofs.Rounds.{ending_alike}
 
 -- ── sort and dedup ──

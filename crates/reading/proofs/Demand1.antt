@@ -1,5 +1,5 @@
 -- Demand 1: a refusal is one of six, and an answer to a reading has one of eight numbers.
-use mathlib.Core.Path.{◌≡◌, refl, sym, ap, ◌∙◌, subst}
+use mathlib.Core.Path.{◌≡◌, sym, ap, ◌∙◌, subst}
 use mathlib.Core.Bool.{◌&&◌}
 use mathlib.Core.List.{List, [], ◌∷◌}
 use mathlib.Core.Option.{Option, none, some}
@@ -10,7 +10,6 @@ use lib.ListN.{length}
 use Rattle.matching.specs.Utf8.{within}
 use Rattle.reading.specs.declared.parser_state.Cause.{Cause}
 use Rattle.reading.specs.declared.call_limit_tracker.LimitKind.{LimitKind}
-use Rattle.reading.specs.declared.call_limit_tracker.LimitKind.TheVariants as LimitKind
 use Rattle.reading.specs.Ending.{Ending, Ok, Err, Stop}
 use Rattle.reading.specs.Grammar.{misfit}
 use Rattle.reading.specs.Nullable.{still_repeat}

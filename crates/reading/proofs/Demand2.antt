@@ -11,7 +11,7 @@ use Rattle.reading.specs.declared.parser_state.Cause.{Cause}
 use Rattle.reading.specs.Ending.{Ending, Ok, Err, Stop}
 use Rattle.reading.specs.Grammar.{root, plain}
 use Rattle.reading.specs.Reading.{State}
-use Rattle.reading.specs.Outcome.{Input, refusal, setting, reading, answer, started, Outcome, outcome}
+use Rattle.reading.specs.Outcome.{Input, refusal, setting, reading, answer, started, Outcome}
 use Rattle.reading.specs.Ford.{peg, rules_of, characters_of}
 use Rattle.reading.specs.Run.{Ran}
 use Rattle.reading.specs.Demand2.{Relates, Consumes, Fails, up_to, MatchOrFailure, Demand2}

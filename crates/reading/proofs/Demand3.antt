@@ -1,6 +1,5 @@
 -- Demand 3: what document 01 fixes of two started inputs is exact, and `run` promises just that.
 use mathlib.Core.Path.{◌≡◌, refl, sym, ap, ap₂, ◌∙◌, subst}
-use mathlib.Core.Bool.{Bool}
 use mathlib.Core.List.{List}
 use mathlib.Core.Logic.{◌↔◌}
 use mathlib.Core.Option.{Option, none, some}
@@ -9,13 +8,12 @@ use native.Mathlib.Omega.{arith}
 use lib.ListN.{length, take}
 use Rattle.reading.specs.declared.parser_state.Cause.{Cause}
 use Rattle.reading.specs.declared.call_limit_tracker.LimitKind.{LimitKind}
-use Rattle.reading.specs.declared.call_limit_tracker.LimitKind.TheVariants as LimitKind
 use Rattle.reading.specs.Ending.{Ending, Ok, Err, Stop}
 use Rattle.reading.specs.Forest.{Forest, tokens}
 use Rattle.reading.specs.Reading.{State, Attempts}
-use Rattle.reading.specs.Outcome.{Input, refusal, reading, Answer, answer, of_limit, of_tokens, of_failure, ascending, report_of, numbers, filled, Outcome, Refusal, refused, started, outcome}
+use Rattle.reading.specs.Outcome.{Input, refusal, reading, Answer, answer, of_limit, of_tokens, of_failure, ascending, report_of, numbers, filled, Outcome, outcome}
 use Rattle.reading.specs.Run.{Ran}
-use Rattle.reading.specs.Demand1.{Within, bounded_ok, bounded_err, bounded_stop}
+use Rattle.reading.specs.Demand1.{Within, bounded_err}
 use Rattle.reading.specs.Demand3.{Parses, parses, Fails, fails, SameSet, token_list, error_report, Each, Demand3}
 use Rattle.reading.proofs.Exact.{tokens_area_exact, report_exact, Few}
 use Rattle.reading.proofs.Accepted as Accepted

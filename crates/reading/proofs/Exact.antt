@@ -1,6 +1,6 @@
 -- Token lists are equal exactly when the forests are: the last token's partner says where the last pair begins. Reports are equal
 -- exactly when furthest and the two sets are: an ascending list is determined by its members.
-use mathlib.Core.Path.{◌≡◌, refl, sym, ap, ap₂, ◌∙◌, subst}
+use mathlib.Core.Path.{◌≡◌, refl, sym, ap, ap₂, ◌∙◌}
 use mathlib.Core.Logic.{◌↔◌, ◌⊎◌, inl, inr, ◌≢◌}
 use mathlib.Core.Bool.{Bool, true, false}
 use mathlib.Core.List.Memᴰ
@@ -9,9 +9,8 @@ use Prim.Native.Nat.{ℕ, zero, suc, ◌+◌, ◌-◌, ◌*◌, ◌≤◌, ◌<�
 use native.Mathlib.Omega.{arith}
 use lib.ListN.{length, take, replicate, length-append}
 use lib.Seq.{take_at, take-append-add}
-use lib.Dec.{eqb, ltb, leb}
+use lib.Dec.{eqb, ltb}
 use borrow.Author.Tests.{eqb-true, eqb-false, ltb-true, ltb-false}
-use Rattle.reading.specs.Ending.{if◌then◌else◌}
 use Rattle.reading.specs.Forest.{Forest, empty, add, size, Token, start_token, end_token, tokens_from, tokens}
 use Rattle.reading.specs.Outcome.{insert, ascending, numbers, report_of, filled}
 use Rattle.reading.specs.Demand3.{SameSet}

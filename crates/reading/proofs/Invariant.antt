@@ -1,22 +1,20 @@
 -- One pass over pest's evaluation with document 01's stops: the position goes forward, from character edge to character edge; the
 -- stack, the queue and the lists keep their bounds; lookahead, atomicity and the open checkpoints are as they were; and a tree that
 -- may not stand still moves on Ok. One lemma for each combinator, over any deeper evaluation that keeps the same.
-use mathlib.Core.Path.{◌≡◌, refl, sym, ap, ap₂, ◌∙◌, subst}
+use mathlib.Core.Path.{◌≡◌, refl, sym, ap, ◌∙◌, subst}
 use mathlib.Core.Bool.{Bool, true, false, ◌&&◌, ◌||◌, not}
 use mathlib.Core.Logic.{◌⊎◌, inl, inr, ◌≢◌}
 use mathlib.Core.List.{List, [], ◌∷◌, ◌++◌, reverse, reverse_aux}
 use mathlib.Core.Option.{Option, none, some}
-use Prim.Native.Nat.{ℕ, zero, suc, ◌+◌, ◌-◌, ◌≤◌, ◌<◌, min}
+use Prim.Native.Nat.{ℕ, zero, suc, ◌-◌, ◌≤◌, ◌<◌, min}
 use native.Mathlib.Omega.{arith}
 use lib.IntN.{ℤ}
-use lib.ListN.{length, take, drop, set, get_or, length-append, length-take, length-drop, length-set}
-use lib.Seq.{drop-drop}
+use lib.ListN.{length, take, drop, set, get_or, length-append, length-take, length-set}
 use lib.Dec.{eqb, ltb, leb}
-use borrow.Author.Tests.{eqb-true, eqb-false, leb-true, leb-false, ltb-true, ltb-false}
+use borrow.Author.Tests.{eqb-false, leb-false, ltb-false}
 use Rattle.matching.specs.Utf8.{Utf8, Edge, within}
-use Rattle.matching.specs.Position as Position
 use Rattle.matching.specs.Position.{same_folded}
-use Rattle.matching.proofs.Forward.{Forward, Found, not_found, found, string_forward, char_forward, skip_forward}
+use Rattle.matching.proofs.Forward.{Found, found, string_forward, char_forward, skip_forward}
 use Rattle.matching.proofs.Edges.{Lands, lands_not, lands, string_lands, char_lands, skip_lands, span_whole, eqb_keeps, folded_keeps}
 use Rattle.reading.specs.declared.parser_state.Lookahead.{Lookahead}
 use Rattle.reading.specs.declared.parser_state.Atomicity.{Atomicity}

@@ -4,18 +4,18 @@ use mathlib.Core.Path.{◌≡◌, refl, sym, ap, ◌∙◌, subst}
 use mathlib.Core.Bool.{Bool, true, false, ◌&&◌, cond}
 use mathlib.Core.List.{List, [], ◌∷◌}
 use mathlib.Core.Option.{Option, none, some}
-use Prim.Native.Nat.{ℕ, zero, suc, ◌+◌, ◌-◌, ◌≤◌, ◌<◌}
+use Prim.Native.Nat.{ℕ, zero, suc, ◌+◌, ◌≤◌, ◌<◌}
 use native.Mathlib.Omega.{arith}
 use native.Mathlib.Nat.{add-zero}
 use lib.IntN.{ℤ, pos, negsuc}
 use lib.ListN.{length, take, drop, length-drop}
 use lib.Seq.{drop-drop}
-use lib.Dec.{eqb, ltb, leb}
+use lib.Dec.{eqb, leb}
 use borrow.Author.Tests.{leb-true, leb-false, le-leb, lt-leb, lt-ltb, le-ltb}
 use Rattle.matching.specs.Utf8.{Utf8, Character, decode}
 use Rattle.matching.specs.Position as Position
 use Rattle.matching.specs.Position.{starts_by, same_folded, match_by, match_char_by, past}
-use Rattle.matching.proofs.Forward.{starts_length, Found, found, not_found, char_forward}
+use Rattle.matching.proofs.Forward.{starts_length, Found, found, char_forward}
 use Rattle.matching.proofs.Edges.{edge_after, folded_keeps}
 use Rattle.matching.proofs.Boundary.{edge_boundary}
 use Rattle.reading.specs.Ending.{if◌then◌else◌, Span}

@@ -1,18 +1,18 @@
 -- The set "may stand still", computed by rounds, is closed and the least closed one: a round that changes nothing ends the rounds, and
 -- each round that changes something flags one line more, so as many rounds as lines are enough.
-use mathlib.Core.Path.{◌≡◌, refl, sym, ap, ap₂, ◌∙◌}
+use mathlib.Core.Path.{◌≡◌, refl, sym, ap, ◌∙◌}
 use mathlib.Core.Bool.{Bool, true, false, ◌&&◌, ◌||◌, true≢false}
-use mathlib.Core.List.{List, [], ◌∷◌, ◌++◌}
+use mathlib.Core.List.{List, [], ◌∷◌}
 use Prim.Native.Nat.{ℕ, zero, suc, ◌+◌, ◌-◌, ◌≤◌, ◌<◌}
 use native.Mathlib.Omega.{arith}
 use native.Mathlib.Decide.{dec_lt, ℕ_discrete}
 use native.Mathlib.Numerals.{add-one}
-use lib.ListN.{length, get_or, take, drop, set, replicate, length-set, length-replicate, get_or-replicate, get_or-eq_default}
-use lib.Seq.{get_or-set_same, get_or-set_other, set-get_or, set_out, take_at, length-take-le}
+use lib.ListN.{length, get_or, set, replicate, length-set, length-replicate, get_or-replicate, get_or-eq_default}
+use lib.Seq.{get_or-set_same, get_or-set_other, set-get_or, set_out}
 use lib.Dec.{eqb}
-use lib.IntN.{ℤ, pos}
-use Rattle.reading.specs.Grammar.{Node, natural, row, node_at, line_count, first_line}
-use Rattle.reading.specs.Nullable.{still_rows, stands_still, Closed, Least, flag, raised, swept, rounds, flags, nullable, still_repeat}
+use lib.IntN.{ℤ}
+use Rattle.reading.specs.Grammar.{Node, natural, node_at, line_count}
+use Rattle.reading.specs.Nullable.{still_rows, stands_still, Closed, Least, flag, raised, swept, rounds, nullable}
 
 -- ── Monotone ──
 infix 10 ◌⊆◌

@@ -1,12 +1,12 @@
 -- The queue of a forest, and what truncation and tagging do to it.
-use mathlib.Core.Path.{◌≡◌, refl, sym, ap, ap₂, ◌∙◌, subst}
+use mathlib.Core.Path.{◌≡◌, refl, sym, ap, ap₂, ◌∙◌}
 use mathlib.Core.Bool.{Bool, true, false}
 use mathlib.Core.List.{List, [], ◌∷◌, ◌++◌, append_assoc, append-nil}
-use Prim.Native.Nat.{ℕ, zero, suc, ◌+◌, ◌-◌, ◌≤◌, ◌<◌, min}
+use Prim.Native.Nat.{ℕ, suc, ◌+◌, ◌≤◌}
 use native.Mathlib.Omega.{arith}
-use lib.ListN.{length, take, drop, set, get_or, length-append}
-use lib.Seq.{take-append-le, take-append-add, take-length, set_at, get_or_at, take_at, take_all}
-use lib.Dec.{eqb, ltb, leb}
+use lib.ListN.{length, take, set, get_or, length-append}
+use lib.Seq.{take-append-le, take-append-add, set_at, get_or_at, take_at, take_all}
+use lib.Dec.{leb}
 use borrow.Author.Tests.{leb-true, leb-false, le-leb, lt-leb}
 use Rattle.reading.specs.Forest.{Forest, empty, add, count, size, cut, tag_last}
 use Rattle.reading.specs.Pest.{QueueableToken, Start, End, with_end}

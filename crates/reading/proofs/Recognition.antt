@@ -22,7 +22,6 @@ use Rattle.reading.specs.declared.parser_state.Lookahead.{Lookahead}
 use Rattle.reading.specs.declared.parser_state.Atomicity.{Atomicity}
 use Rattle.reading.specs.declared.parser_state.Cause.{Cause}
 use Rattle.reading.specs.declared.call_limit_tracker.LimitKind.{LimitKind}
-use Rattle.reading.specs.declared.call_limit_tracker.LimitKind.TheVariants as LimitKind
 use Rattle.reading.specs.Ending.{if◌then◌else◌, Ending, Ok, Err, Stop, on-ok, on_err, stop_if, is_negative, is_none, is_atomic}
 use Rattle.reading.specs.Grammar as Grammar
 use Rattle.reading.specs.Grammar.{Exp, RuleLine}

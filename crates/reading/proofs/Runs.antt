@@ -1,20 +1,17 @@
 -- The laws of a run, from nothing but "the tests 4 to 9 passed": it agrees with pest's `state` (demand 2), its lists keep their bounds,
 -- and a plain grammar's run is what Ford's relation says.
-use mathlib.Core.Path.{◌≡◌, refl, sym, ap, ◌∙◌, subst}
+use mathlib.Core.Path.{◌≡◌, sym, ap, ◌∙◌, subst}
 use mathlib.Core.Bool.{Bool, true}
 use mathlib.Core.List.{List, [], ◌++◌}
 use mathlib.Core.Option.{Option, none, some}
 use Prim.Native.Nat.{ℕ, ◌≤◌}
-use lib.ListN.{length, take, drop}
-use Rattle.matching.specs.Utf8.{Utf8, Edge}
-use Rattle.reading.specs.declared.parser_state.Cause.{Cause}
+use lib.ListN.{take, drop}
 use Rattle.reading.specs.declared.parser_state.Lookahead.{Lookahead}
 use Rattle.reading.specs.declared.parser_state.Atomicity.{Atomicity}
-use Rattle.reading.specs.Ending.{Ending, Ok, Err, Stop, Span, Checkpoint}
+use Rattle.reading.specs.Ending.{Ending, Ok, Span, Checkpoint}
 use Rattle.reading.specs.Forest.{Forest}
-use Rattle.reading.specs.Grammar.{Exp, line_count, tree_at, root, plain}
-use Rattle.reading.specs.Reading as Reading
-use Rattle.reading.specs.Reading.{Setting, State, initial, most_entries, most_debt, most_attempts, debt, held}
+use Rattle.reading.specs.Grammar.{Exp, line_count, root, plain}
+use Rattle.reading.specs.Reading.{State, most_entries}
 use Rattle.reading.specs.Pest as Pest
 use Rattle.reading.specs.Pest.{ParserState}
 use Rattle.reading.specs.Outcome.{Input, Refusal, refusal, setting, reading, answer, refused, started as laid_out, Outcome, outcome}
@@ -25,10 +22,10 @@ use Rattle.reading.specs.Sound.{Fits, fits_none, fits_one}
 use Rattle.reading.specs.Fit.{Fit}
 use Rattle.reading.proofs.Trees.{Literals, Steady}
 use Rattle.reading.proofs.QueueLaws.{top}
-use Rattle.reading.proofs.Invariant.{Tested, Keeps, keeps_ok, keeps_err, keeps_stop, KeepsFrom, eval_keeps}
+use Rattle.reading.proofs.Invariant.{Tested, Keeps, keeps_ok, keeps_err, eval_keeps}
 use Rattle.reading.proofs.Simulation.{Sim, sim_ok, sim_err, sim_stop, pest_of, held_is}
 use Rattle.reading.proofs.Rounds.{ending_alike}
-use Rattle.reading.proofs.Agree.{initial_fit, initial_is, run_sim, alike, agree_at, Runs}
+use Rattle.reading.proofs.Agree.{initial_fit, run_sim, alike, agree_at, Runs}
 use Rattle.reading.proofs.CharacterLaws.{characters_split}
 use Rattle.reading.proofs.Recognition.{PlainRules, Recognised, matched, no_cause, ford_at, ford_parsed, ford_failed}
 use Rattle.reading.proofs.Accepted.{Accepted, RuleLine, Started, started, rule_still, rule_still_is, tree_literals, body_literals, tree_calls, body_calls, tree_steady, body_steady, body_closed, tree_plain, body_plain, body_whole}

@@ -4,7 +4,7 @@ use mathlib.Core.Path.{◌≡◌, refl, sym, ap, ap₂, ◌∙◌, subst}
 use mathlib.Core.Bool.{Bool, true, false, ◌&&◌, ◌||◌, not}
 use mathlib.Core.List.{List, [], ◌∷◌, ◌++◌, append-nil}
 use mathlib.Core.Option.{Option, none, some}
-use Prim.Native.Nat.{ℕ, zero, suc, ◌+◌, ◌-◌, ◌≤◌, ◌<◌}
+use Prim.Native.Nat.{ℕ, zero, suc, ◌+◌, ◌-◌, ◌<◌}
 use native.Mathlib.Omega.{arith}
 use lib.IntN.{ℤ}
 use lib.ListN.{length, take, set, get_or, length-append, length-set}
@@ -16,8 +16,7 @@ use Rattle.reading.specs.declared.parser_state.Lookahead.TheVariants.{Positive, 
 use Rattle.reading.specs.declared.parser_state.Atomicity.{Atomicity}
 use Rattle.reading.specs.declared.parser_state.Cause.{Cause}
 use Rattle.reading.specs.declared.call_limit_tracker.LimitKind.{LimitKind}
-use Rattle.reading.specs.declared.call_limit_tracker.LimitKind.TheVariants as LimitKind
-use Rattle.reading.specs.Ending.{if◌then◌else◌, Ending, Ok, Err, Stop, on-ok, on_err, stop_if, Span, Checkpoint, is_negative, is_none, is_atomic}
+use Rattle.reading.specs.Ending.{if◌then◌else◌, Ending, Ok, Err, Stop, on-ok, on_err, stop_if, Span, is_negative, is_none, is_atomic}
 use Rattle.reading.specs.Grammar as Grammar
 use Rattle.reading.specs.Grammar.{Exp, RuleLine}
 use Rattle.reading.specs.Forest.{Forest, empty, add, count, size, cut, tag_last}
@@ -28,9 +27,9 @@ use Rattle.reading.specs.Pest.{ParserState, QueueableToken, CallLimit, CallLimit
 use Rattle.reading.proofs.Trees.{Literals, still, Steady}
 use Rattle.reading.proofs.Matchers.{string_same, folded_same, range_same, skip_same, entries_same, index_same, end_same, slice_same}
 use Rattle.reading.proofs.StackLaws.{Stk, Inv, pest, inv_push, inv_snapshot, inv_pop, inv_restore, inv_clear, Popped, Restored, Cleared}
-use Rattle.reading.proofs.QueueLaws.{Open, top, inside, prefix, queue_from, length_queue, Grows, grows_refl, grows_trans, grows_add, grows_tag, grows_cut, truncate_queue, tag_queue, length_prefix, close_queue, drop_rule}
+use Rattle.reading.proofs.QueueLaws.{Open, inside, prefix, queue_from, length_queue, Grows, grows_refl, grows_trans, grows_add, grows_tag, grows_cut, truncate_queue, tag_queue, length_prefix, close_queue, drop_rule}
 use Rattle.reading.specs.Fit.{Fit}
-use Rattle.reading.proofs.Invariant.{Keeps, keeps_ok, keeps_err, keeps_stop, Keeping, KeepsFrom, Tested, checkpoint_fit, pushed_fit, toggled, toggled_back, level_keeps, eval_keeps, refused_keeps}
+use Rattle.reading.proofs.Invariant.{keeps_ok, keeps_err, Keeping, KeepsFrom, Tested, checkpoint_fit, pushed_fit, toggled, toggled_back, level_keeps, eval_keeps, refused_keeps}
 
 -- ── The relation ──
 abbrev budget : (limit counted : ℕ) → Option CallLimit

@@ -1,12 +1,11 @@
 -- pest's stack (cache, popped, lengths) stands for a list and the lists saved by the open checkpoints.
-use mathlib.Core.Path.{◌≡◌, refl, sym, ap, ap₂, ◌∙◌, subst}
-use mathlib.Core.Bool.{Bool, true, false}
-use mathlib.Core.List.{List, [], ◌∷◌, ◌++◌, reverse, append_assoc, append-nil, reverse-append, reverse-reverse}
-use Prim.Native.Nat.{ℕ, zero, suc, ◌+◌, ◌-◌, ◌≤◌, ◌<◌, min}
+use mathlib.Core.Path.{◌≡◌, refl, sym, ap, ap₂, ◌∙◌}
+use mathlib.Core.List.{List, [], ◌∷◌, ◌++◌, reverse, append_assoc, reverse-append, reverse-reverse}
+use Prim.Native.Nat.{ℕ, suc, ◌+◌, ◌-◌, ◌≤◌, min}
 use native.Mathlib.Omega.{arith}
 use lib.ListN.{length, take, drop, length-append, length-reverse}
-use lib.Seq.{take-append_seam, drop-append_seam, take_at, drop_at}
-use lib.Dec.{eqb, ltb, leb}
+use lib.Seq.{take_at, drop_at}
+use lib.Dec.{ltb}
 use borrow.Author.Tests.{eq-eqb, ne_eqb, lt-ltb, le-ltb}
 use Rattle.reading.specs.Ending.{if◌then◌else◌, Span, Checkpoint}
 use Rattle.reading.specs.Reading.{lower_to, dropped, outer_checkpoints, debt}

@@ -1,5 +1,5 @@
 -- What a run returns and what stands in each area afterwards. Document 01, "Stops and refusals".
-use Rattle.std.specs.Prelude.{Bool, true, false, ◌&&◌, ◌||◌, not, List, [], ◌∷◌, ◌++◌, ℕ, zero, suc, ◌+◌, ◌-◌, ◌/◌, min, ℤ, length, replicate, eqb, ltb, leb}
+use Rattle.std.specs.Prelude.{Bool, ◌&&◌, List, [], ◌∷◌, ◌++◌, ℕ, ◌+◌, ◌-◌, ◌/◌, min, ℤ, length, replicate, eqb, ltb, leb}
 use Rattle.std.proofs.Math.Option.{Option, none, some}
 use Rattle.matching.specs.Utf8.{within, is_utf8}
 use Rattle.reading.specs.declared.parser_state.Cause.{Cause}
@@ -10,7 +10,7 @@ use Rattle.reading.specs.Ending.{if◌then◌else◌, Ending, Ok, Err, Stop}
 use Rattle.reading.specs.Grammar.{misfit, root, rule_at}
 use Rattle.reading.specs.Nullable.{still_repeat}
 use Rattle.reading.specs.Forest.{Token, tokens}
-use Rattle.reading.specs.Reading.{State, Attempts, Setting, initial, eval}
+use Rattle.reading.specs.Reading.{State, Setting, initial, eval}
 
 -- What a run is handed: nodes, literal text, text, limits, the two areas as they are at its start, and the size of scratch.
 pub record Input : Type 0 where

@@ -1,7 +1,6 @@
 -- Invariant: the search from here gives the whole search's answer.
 use mathlib.Core.Path.{sym, ap, ◌∙◌}
 use mathlib.Core.Bool.{not}
-use Prim.Native.Nat.{◌-◌}
 use Rattle.checks.specs.FieldTests.{line_misfits}
 use Rattle.checks.proofs.FirstLine.{come_first, come_here, come_later, come_over}
 use Rattle.checks.proofs.grammar.first_misfit.Goals as goal

@@ -1,6 +1,5 @@
 -- Invariant: the search from here gives the whole search's answer.
 use mathlib.Core.Path.{sym, ◌∙◌}
-use Prim.Native.Nat.{◌-◌}
 use lib.ListN.{length}
 use Rattle.checks.specs.FieldTests.{flagged_repeat}
 use Rattle.checks.proofs.FirstLine.{come_first, come_here, come_later, come_over}

@@ -1,7 +1,6 @@
 -- Invariant: r rounds are done. A round that changes nothing is the last that matters.
 use borrow.Author.Rules.{rules}
 use mathlib.Core.Path.{◌≡◌, refl, ap, ◌∙◌}
-use Prim.Native.Nat.{◌-◌}
 use native.Mathlib.Omega.{arith}
 use lib.ListN.{length}
 use Rattle.reading.specs.Nullable.{rounds}

@@ -7,7 +7,7 @@ use mathlib.Core.Bool.{true, false}
 use native.Mathlib.Omega.{arith}
 use borrow.Author.Tests.{not-false}
 use Rattle.reading.specs.Pest.{set_position}
-use Rattle.reading.proofs.Accepted.{Accepted, accepted}
+use Rattle.reading.proofs.Accepted.{accepted}
 use Rattle.engine.proofs.LineSteps.{whole}
 use Rattle.engine.proofs.LeafSteps.{kind_low, first_onto, walked_halted, walked_done, last_ok, last_err, right_in, left_line, right_line, on_right, over_right, done_ok, done_err, walked_on}
 use Rattle.engine.proofs.leaves.walk.Goals as goal

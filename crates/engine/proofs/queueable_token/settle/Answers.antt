@@ -1,5 +1,4 @@
 -- The first i tokens are settled, and the queue is as it was.
-use Prim.Native.Nat.{◌-◌}
 use Rattle.engine.proofs.TokenLaws.{settled_none, settled_more, settled_all}
 use native.Mathlib.Omega.{arith}
 use Rattle.engine.proofs.queueable_token.settle.Goals as goal

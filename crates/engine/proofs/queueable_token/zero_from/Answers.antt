@@ -1,5 +1,4 @@
 -- The numbers in [from, i) are zero, and those before `from` are as they were.
-use Prim.Native.Nat.{◌-◌}
 use Rattle.engine.proofs.AreaLaws.{zeroed_start, zeroed_more, zeroed_all}
 use native.Mathlib.Omega.{arith}
 use Rattle.engine.proofs.queueable_token.zero_from.Goals as goal

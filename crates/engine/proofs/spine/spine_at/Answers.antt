@@ -1,6 +1,5 @@
 -- After j turns the line is j steps below the top.
 use mathlib.Core.Path.{ap, ◌∙◌}
-use Prim.Native.Nat.{◌-◌}
 use native.Mathlib.Omega.{arith}
 use borrow.Author.Rules.{rules}
 use Rattle.engine.specs.Spine.{spine_line}

@@ -1,6 +1,5 @@
 -- The invariant: scratch is what the definition gives after i moves.
 use mathlib.Core.Path.{◌≡◌, refl, ap, ◌∙◌}
-use Prim.Native.Nat.{◌-◌}
 use native.Mathlib.Omega.{arith}
 use borrow.Author.Rules.{rules}
 use Rattle.engine.specs.Pairs.{drained}

@@ -1,18 +1,7 @@
 -- The invariants: `Going`, the answer from here on is the whole answer; and of the bytes of one entry, that those below i were the same. The three ways out of the loop meet in `met`.
 use mathlib.Core.Path.{ap}
 use mathlib.Core.Bool.{not}
-use mathlib.Core.List.{[], ◌∷◌}
-use mathlib.Core.Path.{◌≡◌}
-use mathlib.Core.Logic.{⊎_elim}
-use Prim.Native.Nat.{ℕ, ◌-◌}
 use native.Mathlib.Omega.{arith}
-use types.Run.{OneOf}
-use denote.Enum.Declared as Enum
-use Rattle.matching.specs.declared.span.Span.{Span}
-use Rattle.engine.specs.declared.stack.Popped.TheVariants.{Got, Empty, Full}
-use Rattle.engine.specs.declared.stack.Popped.{Popped}
-use Rattle.engine.specs.declared.stack.Stack.{Stack}
-use Rattle.engine.specs.contracts.stack.Popped as Code
 use Rattle.engine.proofs.Regions.{stack_trans}
 use Rattle.engine.proofs.PopMatch.{Met, bytes_short, bytes_fit, bytes_start, bytes_more, bytes_differ, bytes_all, bytes_inside, going_start, going_full, going_height, going_more, met_empty, met_failed, met_good, met_bad}
 use Rattle.engine.proofs.stack_match.match_pop.Goals as goal

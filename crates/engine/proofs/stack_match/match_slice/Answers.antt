@@ -1,5 +1,4 @@
 -- The invariant `Left`: what is left of the slice, from here on, decides the whole answer.
-use Prim.Native.Nat.{◌-◌}
 use native.Mathlib.Omega.{arith}
 use Rattle.engine.proofs.Slices.{next_inside, left_start, left_more, left_fails, left_done}
 use Rattle.engine.proofs.stack_match.match_slice.Goals as goal

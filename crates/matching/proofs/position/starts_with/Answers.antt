@@ -1,6 +1,5 @@
 -- The invariant: the first i bytes are equal, so that the rest decides.
 use mathlib.Core.Path.{sym}
-use Prim.Native.Nat.{◌-◌}
 use lib.Dec.{eqb}
 use borrow.Author.Tests.{eq-eqb, ne_eqb}
 use Rattle.matching.proofs.Starts.{starts_short, from_start, from_more, from_fails, from_end}

@@ -1,6 +1,5 @@
 -- The invariant of `starts_with`, over folded bytes.
 use mathlib.Core.Path.{sym, ◌∙◌}
-use Prim.Native.Nat.{◌-◌}
 use borrow.Author.Tests.{eq-eqb, ne_eqb}
 use Rattle.matching.specs.Position.{same_folded}
 use Rattle.matching.proofs.Starts.{starts_short, from_start, from_more, from_fails, from_end}

@@ -1,6 +1,5 @@
 -- The invariant: the rest from here is UTF-8 exactly if the whole text is.
 use mathlib.Core.Path.{refl, sym, ◌∙◌}
-use Prim.Native.Nat.{◌-◌}
 use native.Mathlib.Omega.{arith}
 use Rattle.matching.proofs.Steps.{ascii, inside, utf8_more, utf8_fails, utf8_done}
 use Rattle.matching.proofs.utf8.is_utf8.Goals as goal
