@@ -5,14 +5,14 @@ usage: python3 tools/snake_case.py [--list]     at the top, once, right after po
 
 A name is ours where a file of specs/ or a lemma file right in proofs/ declares it: a definition, a lemma, a field, a constructor or a
 bound variable. Names of the kit and names that Rattle makes (goals, steps) have dashes of their own and stay, as do names that are ours
-and the kit's both; those and names that would fall together are said.
+and the kit's both, where one of our files takes the kit's; those and names that would fall together are said.
 """
 import glob
 import re
 import sys
 
 KIT = '/opt/rattle'
-WORD = re.compile(r"[^\s()\[\]{};,.\"\\]+")
+WORD = re.compile(r"[^\s()\[\]{};,.\"\\`]+")
 SIGNATURE = re.compile(r'^\s*(?:(?:abbrev|unfoldable|pub|record|data|instance|let)\s+)*((?:[^\s()\[\]{};,."]+\s+)+):\s')
 BOUND = re.compile(r'[({]((?:[^\s()\[\]{};,.:"]+ )+):')
 LAMBDA = re.compile(r'λ ((?:[^\s()\[\]{};,.:"]+ ?)+)\.')
@@ -56,8 +56,13 @@ def main():
     )
     for path in files:
         every.update(WORD.findall(text(path)))
-    both = sorted(ours & theirs)
-    turn = {n: n.replace('-', '_') for n in ours - theirs}
+    taken = set()
+    for path in files:
+        for module, names in re.findall(r'use (\S+)\.\{([^}]*)\}', text(path)):
+            if not re.match(r'Rattle\.(?!std\b)', module):
+                taken.update(re.split(r'[ ,]+', names))
+    both = sorted(ours & theirs & taken)
+    turn = {n: n.replace('-', '_') for n in ours - set(both)}
     # What a rule's arrow or an operator holds is no name.
     turn = {n: s for n, s in turn.items() if re.fullmatch(r"[\w'◌-]+", n)}
     falls = sorted(n for n, s in turn.items() if s in every)

@@ -62,5 +62,5 @@ module _ (rows : List Bool) (k : ℕ) where
   pub row_first : k < 1 → get_or rows 0 false ≡ row rows false (pos k)
   row_first h = let e : 0 ≡ k - 1 = omega arith in ap (λ (i : ℕ). get_or rows i false) e
 
-  pub row-none : length rows ≡ 20 → 20 < k → false ≡ row rows false (pos k)
-  row-none e h = sym (get_or-eq_default rows false (omega arith))
+  pub row_none : length rows ≡ 20 → 20 < k → false ≡ row rows false (pos k)
+  row_none e h = sym (get_or-eq_default rows false (omega arith))

@@ -45,13 +45,13 @@ module _ (s : ℕ → Bool) (ns : List ℤ) (l kind : ℕ) (a b : Field)
 pub part_length : (n : ℕ) (f : List Bool) → n ≤ length f → n ≡ length (take n f)
 part_length n f h = sym (length-take-le n f h)
 
-take-replicate : (n m : ℕ) → n ≤ m → take n (replicate m false) ≡ replicate n false
-take-replicate zero m h = refl
-take-replicate (suc n) zero h = absurd (omega arith)
-take-replicate (suc n) (suc m) h = ap (λ (l : List Bool). false ∷ l) (take-replicate n m (omega arith))
+take_replicate : (n m : ℕ) → n ≤ m → take n (replicate m false) ≡ replicate n false
+take_replicate zero m h = refl
+take_replicate (suc n) zero h = absurd (omega arith)
+take_replicate (suc n) (suc m) h = ap (λ (l : List Bool). false ∷ l) (take_replicate n m (omega arith))
 
 pub part_false : (n : ℕ) (f : List Bool) → f ≡ replicate (length f) false → n ≤ length f → take n f ≡ replicate (length (take n f)) false
-part_false n f e h = ap (take n) e ∙ take-replicate n (length f) h ∙ ap (λ (k : ℕ). replicate k false) (part_length n f h)
+part_false n f e h = ap (take n) e ∙ take_replicate n (length f) h ∙ ap (λ (k : ℕ). replicate k false) (part_length n f h)
 
 module _ (ns : List ℤ) (f g : List Bool) (h : line_count ns ≤ length f) (e : g ≡ rounds ns (length (take (line_count ns) f)) (length (take (line_count ns) f))) where
   back_is : take (line_count ns) (g ++ drop (line_count ns) f) ≡ flags ns

@@ -19,7 +19,7 @@ use Rattle.reading.specs.Nullable.{still_repeat}
 use Rattle.reading.specs.Outcome.{Input, Refusal, good_text, first_of, refusal_on, refusal}
 use Rattle.checks.specs.FieldTests.{fault_of}
 use Rattle.reading.proofs.Accepted.{misfit_fours}
-use Rattle.checks.specs.Refusals.{refused-of, later_tests}
+use Rattle.checks.specs.Refusals.{refused_of, later_tests}
 
 -- ── A good text ──
 module _ (x : List ℕ) where
@@ -35,7 +35,7 @@ module _ (x : List ℕ) where
 -- ── Tests 7 to 9 ──
 module _ (text : List ℕ) (depth report scratch : ℕ) {g : Bool} (e : g ≡ good_text text) where
   abbrev Later : Refused
-  Later = refused-of (first_of (later_tests text depth report scratch))
+  Later = refused_of (first_of (later_tests text depth report scratch))
 
   pub later_text : g ≡ false → By 7 0 ≡ Later
   later_text f = let z : good_text text ≡ false = sym e ∙ f in sym (rw z)
@@ -60,7 +60,7 @@ passed (some q) e = let z : ◌≡◌ {A = ℕ} 0 1 = cc in absurd (omega arith)
 
 module _ (ns : List ℤ) (literals text : List ℕ) (depth report scratch : ℕ) where
   abbrev All : Refused
-  All = refused-of (refusal_on ns literals text depth report scratch)
+  All = refused_of (refusal_on ns literals text depth report scratch)
 
   module _ {g : Bool} (e : g ≡ good_text literals) where
     pub refused_4 : g ≡ false → By 4 0 ≡ All
@@ -77,11 +77,11 @@ module _ (ns : List ℤ) (literals text : List ℕ) (depth report scratch : ℕ)
         pub refused_6 : (p : ℕ) → Fault.At p ≡ fault_of (still_repeat ns) → By 6 p ≡ All
         refused_6 p q = sym (rw (good, passed (misfit ns literals) m, found (still_repeat ns) p q))
 
-        pub refused_later : Fault.No ≡ fault_of (still_repeat ns) → (r : Refused) → r ≡ refused-of (first_of (later_tests text depth report scratch)) → r ≡ All
+        pub refused_later : Fault.No ≡ fault_of (still_repeat ns) → (r : Refused) → r ≡ refused_of (first_of (later_tests text depth report scratch)) → r ≡ All
         refused_later s r q = q ∙ sym (rw (good, passed (misfit ns literals) m, passed (still_repeat ns) s))
 
 -- The refusal of an input is that of its parts.
-pub of_input : {r : Refused} (i : Input) → r ≡ refused-of (refusal_on i.nodes i.literals i.text i.depth_limit (length i.report) i.scratch) → r ≡ refused-of (refusal i)
+pub of_input : {r : Refused} (i : Input) → r ≡ refused_of (refusal_on i.nodes i.literals i.text i.depth_limit (length i.report) i.scratch) → r ≡ refused_of (refusal i)
 unfolding refusal
 of_input i e = e
 
@@ -93,6 +93,6 @@ few_nodes ns literals m =
     let w : (1 ≤ line_count ns) × (line_count ns ≤ 4096) = within_true 1 4096 (line_count ns) (and_right (eqb (line_count ns * 4) (length ns)) _ t) in
     omega (arith, w.1)
 
-pub not_refused : (o : Option Refusal) → No ≡ refused-of o → o ≡ none
+pub not_refused : (o : Option Refusal) → No ≡ refused_of o → o ≡ none
 not_refused none e = refl
 not_refused (some r) e = let z : ◌≡◌ {A = ℕ} 0 1 = cc in absurd (omega arith)

@@ -1,4 +1,4 @@
--- An ending as one number, and back (law: `unpacked-packed` of proofs/PackedLaws): 0 is Err, 1 is Ok, and a stop is 4 times its line,
+-- An ending as one number, and back (law: `unpacked_packed` of proofs/PackedLaws): 0 is Err, 1 is Ok, and a stop is 4 times its line,
 -- plus 2, plus its cause's number from 0 to 3.
 use Rattle.std.specs.Prelude.{ℕ, ◌+◌, ◌-◌, ◌*◌, ◌/◌, ◌%◌, eqb}
 use Rattle.reading.specs.declared.parser_state.Cause.{Cause}

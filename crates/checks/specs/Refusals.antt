@@ -6,9 +6,9 @@ use Rattle.checks.specs.declared.grammar.Refused.{Refused}
 use Rattle.checks.specs.declared.grammar.Refused.TheVariants.{No, By}
 use Rattle.reading.specs.Outcome.{Refusal, refuse, unless, good_text}
 
-abbrev pub refused-of : Option Refusal → Refused
-refused-of none = No
-refused-of (some r) = By r.number r.place
+abbrev pub refused_of : Option Refusal → Refused
+refused_of none = No
+refused_of (some r) = By r.number r.place
 
 -- The tests that do not look at the grammar: 7 to 9.
 abbrev pub later_tests : (text : List ℕ) → (depth report scratch : ℕ) → List (Option Refusal)

@@ -3,7 +3,7 @@ ghost use Rattle.std.specs.Prelude.{◌≡◌, true, ◌&&◌, ◌||◌, ◌+◌
 ghost use Rattle.matching.specs.Utf8.{is_utf8};
 ghost use Rattle.reading.specs.Grammar.{line_count, node_at, kind_at, edge, fields_fit, line_fits, first_line, misfit};
 ghost use Rattle.reading.specs.Outcome.{good_text, first_of, refusal_on};
-ghost use Rattle.checks.specs.Refusals.{refused-of, later_tests};
+ghost use Rattle.checks.specs.Refusals.{refused_of, later_tests};
 ghost use Rattle.checks.specs.FieldTests.{in_range, part_in, tests_of, fault_of, line_misfits};
 
 use crate::node::{Field, field_at, kind_at, row_of};
@@ -228,7 +228,7 @@ fn is_good_text(text: &[u8]) -> bool
 
 // Tests 7 to 9, which do not look at the grammar.
 fn later_refusal(text: &[u8], depth: u32, report: usize, scratch: usize) -> Refused
-    ensures { result ≡ refused-of (first_of (later_tests text.now depth report scratch)) }
+    ensures { result ≡ refused_of (first_of (later_tests text.now depth report scratch)) }
 {
     if !is_good_text(text) {
         return Refused::By(7, 0);
@@ -251,7 +251,7 @@ pub fn refusal(
     report: usize,
     scratch: usize,
 ) -> Refused
-    ensures { result ≡ refused-of (refusal_on nodes.now literals.now text.now depth report scratch) }
+    ensures { result ≡ refused_of (refusal_on nodes.now literals.now text.now depth report scratch) }
 {
     if !is_good_text(literals) {
         return Refused::By(4, 0);

@@ -57,14 +57,14 @@ zeroed_more from i a b f h z = record {
     go k l m (yes g) = get_or-set_other b i k 0 0 (omega arith) ∙ z.zeros k l g
     go k l m (no g) = let e : k ≡ i = omega arith in rw e (get_or-set_same b i 0 0 h)
 
-length-filled : (from : ℕ) (a : List ℕ) → length (filled (length a) (take from a)) ≡ length a
-length-filled from a =
+length_filled : (from : ℕ) (a : List ℕ) → length (filled (length a) (take from a)) ≡ length a
+length_filled from a =
     length-append (take from a) (replicate (length a - length (take from a)) 0)
     ∙ ap (λ (k : ℕ). length (take from a) + k) (length-replicate (length a - length (take from a)) 0)
     ∙ (omega (arith, length-take from a))
 
 pub zeroed_all : (from to : ℕ) (a b : List ℕ) → length a ≤ to → Zeroed from to a b → b ≡ filled (length a) (take from a)
-zeroed_all from to a b h z = ext_get_or 0 b (filled (length a) (take from a)) (z.size ∙ sym (length-filled from a)) (λ k l. go k (rw z.size at l) (dec_lt k from))
+zeroed_all from to a b h z = ext_get_or 0 b (filled (length a) (take from a)) (z.size ∙ sym (length_filled from a)) (λ k l. go k (rw z.size at l) (dec_lt k from))
   where
     go : (k : ℕ) → k < length a → Dec (k < from) → get_or b k 0 ≡ get_or (filled (length a) (take from a)) k 0
     go k l (yes g) =

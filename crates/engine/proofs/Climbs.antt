@@ -15,7 +15,7 @@ use Rattle.engine.specs.Fields as Code
 use Rattle.reading.specs.declared.parser_state.Ending as Coded
 use Rattle.reading.specs.declared.parser_state.Ending.TheVariants as Coded-of
 use Rattle.reading.specs.declared.parser_state.Cause.{Cause}
-use Rattle.reading.specs.Ending.{if◌then◌else◌, Ending, Ok, Err, Stop, on-ok, on_err}
+use Rattle.reading.specs.Ending.{if◌then◌else◌, Ending, Ok, Err, Stop, on_ok, on_err}
 use Rattle.reading.specs.Grammar.{Exp, and_then, or_else, natural, node_at, kind_at, line_count, tree_at}
 use Rattle.reading.specs.Pest as Pest
 use Rattle.reading.specs.Pest.{ParserState}
@@ -40,7 +40,7 @@ abbrev pub onto : (ParserState → Ending ParserState) → Onward → Ending Par
 onto f (go m) = f m
 onto f (stay x) = x
 
-going_and : (f : ParserState → Ending ParserState) (k : ℕ) → k ≡ 6 → (x : Ending ParserState) → onto f (going k x) ≡ on-ok x (λ m. f m)
+going_and : (f : ParserState → Ending ParserState) (k : ℕ) → k ≡ 6 → (x : Ending ParserState) → onto f (going k x) ≡ on_ok x (λ m. f m)
 unfolding going
 going_and f k e (Ok m) = simp (eq-eqb k 6 e)
 going_and f k e (Err m) = simp (ne_eqb k 7 (λ q. omega arith))
@@ -100,11 +100,11 @@ module _ (ns : List ℤ) (literals text : List ℕ) (capacity d : ℕ) (k : Fork
   abbrev pub at_line : (line : ℕ) → ParserState → Ending ParserState
   at_line l m = evaluated ns literals text capacity d (tree_at ns literals l) m
 
-  eval_and : (x y : Exp) (m : ParserState) → evaluated ns literals text capacity d (and_then x y) m ≡ on-ok (evaluated ns literals text capacity d x m) (λ n. evaluated ns literals text capacity d y n)
+  eval_and : (x y : Exp) (m : ParserState) → evaluated ns literals text capacity d (and_then x y) m ≡ on_ok (evaluated ns literals text capacity d x m) (λ n. evaluated ns literals text capacity d y n)
   unfolding evaluated
   eval_and x y m = go d
     where
-      go : (d : ℕ) → Pest.eval (setting_of ns literals text capacity) true d (and_then x y) m ≡ on-ok (Pest.eval (setting_of ns literals text capacity) true d x m) (λ n. Pest.eval (setting_of ns literals text capacity) true d y n)
+      go : (d : ℕ) → Pest.eval (setting_of ns literals text capacity) true d (and_then x y) m ≡ on_ok (Pest.eval (setting_of ns literals text capacity) true d x m) (λ n. Pest.eval (setting_of ns literals text capacity) true d y n)
       go zero = refl
       go (suc d) = refl
 
@@ -162,8 +162,8 @@ module _ (ns : List ℤ) (literals text : List ℕ) (capacity d : ℕ) (k : Fork
           (subst (λ (m : Line). Lower l m.b) (sym e) (k.lower l v.0 (omega (arith, v.1)) f).1, v.1)
 
       -- The leftmost line's ending is that of the spine's last line.
-      pub low-is : (x : Ending ParserState) (m : ParserState) → x ≡ at_line p.line m → x ≡ at_line (spine_line ns top p.count) m
-      low-is x m f = f ∙ ap (λ (l : ℕ). at_line l m) w.place
+      pub low_is : (x : Ending ParserState) (m : ParserState) → x ≡ at_line p.line m → x ≡ at_line (spine_line ns top p.count) m
+      low_is x m f = f ∙ ap (λ (l : ℕ). at_line l m) w.place
 
       -- One line up: what its right side makes of its left side's ending.
       pub climb_runs : (m : ParserState) (i : ℕ) (x : Ending ParserState) → 1 ≤ i → i ≤ p.count → x ≡ at_line (spine_line ns top i) m

@@ -69,10 +69,10 @@ module _ (ns : List ℤ) (literals text : List ℕ) (capacity d : ℕ) (w : Acce
         end_4 ns literals text capacity d w l i n e q m f (Pest.moved (match_of r) m)
         (moved_by (Position.skip text n.a p) r m z ∙ ap (λ (k : ℕ). Pest.moved (Position.skip text n.a k) m) (sym x))
 
-    pub leaf_5 : n.kind ≡ 5 → (r : Matched) → match_of r ≡ (if Position.at-end text p then some p else none) → Pest.moved (match_of r) m ≡ At m
+    pub leaf_5 : n.kind ≡ 5 → (r : Matched) → match_of r ≡ (if Position.at_end text p then some p else none) → Pest.moved (match_of r) m ≡ At m
     leaf_5 q r z =
         end_5 ns literals text capacity d w l i n e q m (Pest.moved (match_of r) m)
-        (ap (λ (o : Option ℕ). Pest.moved o m) (z ∙ ap (λ (k : ℕ). if Position.at-end text k then some k else none) (sym x)) ∙ at_end_moves (Position.at-end text m.position) m)
+        (ap (λ (o : Option ℕ). Pest.moved o m) (z ∙ ap (λ (k : ℕ). if Position.at_end text k then some k else none) (sym x)) ∙ at_end_moves (Position.at_end text m.position) m)
 
   -- The kind that is left; `rest` as the code's match gives it.
   pub fifth : kind_at ns l ≤ 5 → (((Unit {0} × (n.kind ≡ 1 → ⊥)) × (n.kind ≡ 2 → ⊥)) × (n.kind ≡ 3 → ⊥)) × (n.kind ≡ 4 → ⊥) → n.kind ≡ 5

@@ -109,16 +109,16 @@ module _ (text : List ℕ) (v : Pest.Stack) (line p : ℕ) (m : ParserState) whe
         pick : (b : Bool) → b ≡ false → stop_if b (StackFull line) (λ _. after (pop x w.cache v)) ≡ after (pop x w.cache v)
         pick b e = rw e
 
-    pub step-some : (q : ℕ) → Pest.match_string text (as_str text x) p ≡ some q
+    pub step_some : (q : ℕ) → Pest.match_string text (as_str text x) p ≡ some q
         → stack_match_pop text true line w.cache q (set_stack w m) ≡ stack_match_pop text true line v.cache p (set_stack v m)
-    step-some q e = sym (step ∙ go (Pest.match_string text (as_str text x) p) e)
+    step_some q e = sym (step ∙ go (Pest.match_string text (as_str text x) p) e)
       where
         go : (o : Option ℕ) → o ≡ some q
             → ◌≡◌ {A = Ending ParserState} (elim o [ none ↦ Err (set_stack w m) | some r ↦ stack_match_pop text true line w.cache r (set_stack w m) ]) (stack_match_pop text true line w.cache q (set_stack w m))
         go o e = rw e
 
-    pub step-none : Pest.match_string text (as_str text x) p ≡ none → Err (set_stack w m) ≡ stack_match_pop text true line v.cache p (set_stack v m)
-    step-none e = sym (step ∙ go (Pest.match_string text (as_str text x) p) e)
+    pub step_none : Pest.match_string text (as_str text x) p ≡ none → Err (set_stack w m) ≡ stack_match_pop text true line v.cache p (set_stack v m)
+    step_none e = sym (step ∙ go (Pest.match_string text (as_str text x) p) e)
       where
         go : (o : Option ℕ) → o ≡ none → ◌≡◌ {A = Ending ParserState} (elim o [ none ↦ Err (set_stack w m) | some r ↦ stack_match_pop text true line w.cache r (set_stack w m) ]) (Err (set_stack w m))
         go o e = rw e
@@ -238,7 +238,7 @@ module _ {text a₀ : List ℕ} {s₀ : Stack} {p₀ : ℕ} {a : List ℕ} {s : 
           ready = ready_here;
           frame = stack_trans g.frame e.1;
           rest = λ line m.
-              step-some text (stack_of a s) line p m (stack_of a' u) (span x.start.0 x.end.0) took_here (p + length bytes)
+              step_some text (stack_of a s) line p m (stack_of a' u) (span x.start.0 x.end.0) took_here (p + length bytes)
               (ap (λ (b : List ℕ). Pest.match_string text b p) (sym eb) ∙ match_string_same text bytes p ∙ h)
               ∙ g.rest line m;
         }
@@ -249,7 +249,7 @@ module _ {text a₀ : List ℕ} {s₀ : Stack} {p₀ : ℕ} {a : List ℕ} {s : 
             rw (ea, es, eg) (record {
               frame = stack_trans g.frame e.1;
               ends = λ line m.
-                  step-none text (stack_of a s) line p m (stack_of a' u) (span x.start.0 x.end.0) took_here
+                  step_none text (stack_of a s) line p m (stack_of a' u) (span x.start.0 x.end.0) took_here
                   (ap (λ (b : List ℕ). Pest.match_string text b p) (sym eb) ∙ match_string_same text bytes p ∙ h)
                   ∙ g.rest line m;
             })

@@ -85,9 +85,9 @@ module _ {A : Type 0} (mk : ℕ → ℕ → A) where
       (sym (pairs_same a (put a (at + n * 2) x y) at n (same_below at (at + n * 2) (omega arith) (outside_put a (at + n * 2) x y))))
 
   -- The last pair.
-  pub pairs-last : (a : List ℕ) (at m n : ℕ) → m ≡ suc n → pairs mk a at m ≡ mk (get_or a (at + n * 2) 0) (get_or a (at + n * 2 + 1) 0) ∷ pairs mk a at n
+  pub pairs_last : (a : List ℕ) (at m n : ℕ) → m ≡ suc n → pairs mk a at m ≡ mk (get_or a (at + n * 2) 0) (get_or a (at + n * 2 + 1) 0) ∷ pairs mk a at n
   unfolding pairs
-  pairs-last a at m n e = ap (λ (k : ℕ). pairs mk a at k) e
+  pairs_last a at m n e = ap (λ (k : ℕ). pairs mk a at k) e
 
   -- The pair that stands n below the last.
   pub pairs_getD : (a : List ℕ) (at n k p : ℕ) (d : A) → p ≡ n + suc k → get_or (pairs mk a at p) n d ≡ mk (get_or a (at + k * 2) 0) (get_or a (at + k * 2 + 1) 0)

@@ -11,7 +11,7 @@ use Rattle.engine.specs.declared.attempts.Noted.{Noted}
 use Rattle.engine.specs.Fields as Code
 use Rattle.reading.specs.declared.parser_state.Ending as Code·ending
 use Rattle.reading.specs.declared.parser_state.Ending.TheVariants as Code·of
-use Rattle.reading.specs.Ending.{Ending, Ok, Err, Stop, on-ok, stop_if, is_negative, is_atomic}
+use Rattle.reading.specs.Ending.{Ending, Ok, Err, Stop, on_ok, stop_if, is_negative, is_atomic}
 use Rattle.reading.specs.Grammar.{end_of_input}
 use Rattle.reading.specs.Reading.{Setting, most_attempts}
 use Rattle.reading.specs.Pest.{ParserState, tracking, track, close_rule, rule_end}
@@ -46,18 +46,18 @@ module _ (g : Setting) (due : Bool) (line r p : ℕ) (n : Noted) (m : ParserStat
   -- ── a rule, after its tracking, which the code answered with y, known to be z ──
   module _ (tokens b : List ℕ) (s : Code.ParserState) (y z : Code·ending.Ending) (same : y ≡ z)
       (h : view_end tokens b s y ≡ tracking g true due line r p n.positives n.negatives n.total m (λ (t : ParserState). Ok t)) where
-    then_on : (k : ParserState → Ending ParserState) → on-ok (view_end tokens b s z) k ≡ tracking g true due line r p n.positives n.negatives n.total m k
+    then_on : (k : ParserState → Ending ParserState) → on_ok (view_end tokens b s z) k ≡ tracking g true due line r p n.positives n.negatives n.total m k
     then_on k =
-        ap (λ (x : Ending ParserState). on-ok x k) (sym (ap (view_end tokens b s) same) ∙ h)
+        ap (λ (x : Ending ParserState). on_ok x k) (sym (ap (view_end tokens b s) same) ∙ h)
         ∙ sym (tracking_then g line r due p n.positives n.negatives n.total m k)
 
-    pub after_ok : (i : ℕ) (e : Ending ParserState) → due ≡ is_negative m.lookahead → e ≡ on-ok (view_end tokens b s z) (λ t. close_rule g true line r i t)
+    pub after_ok : (i : ℕ) (e : Ending ParserState) → due ≡ is_negative m.lookahead → e ≡ on_ok (view_end tokens b s z) (λ t. close_rule g true line r i t)
         → e ≡ rule_end g true line r p i n.positives n.negatives n.total (Ok m)
     after_ok i e d q =
         q ∙ then_on (λ t. close_rule g true line r i t)
         ∙ ap (λ (c : Bool). tracking g true c line r p n.positives n.negatives n.total m (λ t. close_rule g true line r i t)) d
 
-    pub after_err : (i : ℕ) (e : Ending ParserState) → due ≡ not (is_negative m.lookahead) → e ≡ on-ok (view_end tokens b s z) (λ t. Err (dropped i t))
+    pub after_err : (i : ℕ) (e : Ending ParserState) → due ≡ not (is_negative m.lookahead) → e ≡ on_ok (view_end tokens b s z) (λ t. Err (dropped i t))
         → e ≡ rule_end g true line r p i n.positives n.negatives n.total (Err m)
     after_err i e d q =
         q ∙ then_on (λ t. Err (dropped i t))

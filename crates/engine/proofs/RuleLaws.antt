@@ -18,7 +18,7 @@ use Rattle.engine.specs.declared.attempts.Noted.{Noted}
 use Rattle.engine.specs.declared.attempts.Attempts.{Attempts}
 use Rattle.engine.specs.declared.stack.Stack.{Stack}
 use Rattle.engine.specs.Fields as Declared
-use Rattle.reading.specs.Ending.{if◌then◌else◌, Ending, Ok, Stop, on-ok, stop_if, is_negative, is_none, is_atomic}
+use Rattle.reading.specs.Ending.{if◌then◌else◌, Ending, Ok, Stop, on_ok, stop_if, is_negative, is_none, is_atomic}
 use Rattle.reading.specs.Reading.{Setting, most_attempts}
 use Rattle.reading.specs.Pest as Pest
 use Rattle.reading.specs.Pest.{ParserState, QueueableToken, Start, End, produces, with_end, set_queue, push_token, tracking, close_rule, tag_last, tag_node}
@@ -221,7 +221,7 @@ module _ (g : Setting) (line r : ℕ) where
   -- The start, then the body and the end of it: `f` is the body, and what is noted is noted before the start.
   pub rule_is : (f : ParserState → Ending ParserState) (m : ParserState)
       → Pest.rule g true line r f m
-      ≡ on-ok (starting g line m) (λ n. Pest.rule_end g true line r m.position (length m.queue) (noted m.position (tried_of m)).positives (noted m.position (tried_of m)).negatives (noted m.position (tried_of m)).total (f n))
+      ≡ on_ok (starting g line m) (λ n. Pest.rule_end g true line r m.position (length m.queue) (noted m.position (tried_of m)).positives (noted m.position (tried_of m)).negatives (noted m.position (tried_of m)).total (f n))
   rule_is f m = go (produces m) (leb g.capacity (length m.queue))
     where
       k : ParserState → Ending ParserState
@@ -230,20 +230,20 @@ module _ (g : Setting) (line r : ℕ) where
       pushed : ParserState
       pushed = set_queue (m.queue ++ (Start 0 m.position ∷ [])) m
 
-      go : (b c : Bool) → elim b [ false ↦ k m | true ↦ stop_if c (TokensFull line) (λ _. k pushed) ] ≡ on-ok (elim b [ false ↦ Ok m | true ↦ stop_if c (TokensFull line) (λ _. Ok pushed) ]) k
+      go : (b c : Bool) → elim b [ false ↦ k m | true ↦ stop_if c (TokensFull line) (λ _. k pushed) ] ≡ on_ok (elim b [ false ↦ Ok m | true ↦ stop_if c (TokensFull line) (λ _. Ok pushed) ]) k
       go true true = refl
       go true false = refl
       go false true = refl
       go false false = refl
 
   pub tracking_then : (due : Bool) (p pi ni prev : ℕ) (m : ParserState) (k : ParserState → Ending ParserState)
-      → tracking g true due line r p pi ni prev m k ≡ on-ok (tracking g true due line r p pi ni prev m (λ t. Ok t)) k
+      → tracking g true due line r p pi ni prev m k ≡ on_ok (tracking g true due line r p pi ni prev m (λ t. Ok t)) k
   tracking_then due p pi ni prev m k = go (due && not (is_atomic m.atomicity)) (ltb most_attempts (length n.pos_attempts) || ltb most_attempts (length n.neg_attempts))
     where
       n : ParserState
       n = Pest.track r p pi ni prev m
 
-      go : (b c : Bool) → elim b [ false ↦ k m | true ↦ stop_if c (AttemptsFull line) (λ _. k n) ] ≡ on-ok (elim b [ false ↦ Ok m | true ↦ stop_if c (AttemptsFull line) (λ _. Ok n) ]) k
+      go : (b c : Bool) → elim b [ false ↦ k m | true ↦ stop_if c (AttemptsFull line) (λ _. k n) ] ≡ on_ok (elim b [ false ↦ Ok m | true ↦ stop_if c (AttemptsFull line) (λ _. Ok n) ]) k
       go true true = refl
       go true false = refl
       go false true = refl

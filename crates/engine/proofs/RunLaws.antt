@@ -22,7 +22,7 @@ use Rattle.reading.specs.Pest.{ParserState, CallLimit}
 use Rattle.engine.specs.Areas.{numbers, pairs, queue_of, positives_at, negatives_at, view, view_end}
 use Rattle.checks.specs.Tracker.{limit_of}
 use Rattle.reading.specs.Fit.{Fit}
-use Rattle.checks.specs.Refusals.{refused-of}
+use Rattle.checks.specs.Refusals.{refused_of}
 use Rattle.reading.specs.Outcome.{Input, Refusal, refusal, refused, capacity, setting, reading, answer, Answer, Outcome, laid, started, outcome}
 use Rattle.reading.specs.Answer.{pest_answer}
 use Rattle.engine.specs.Conclude.{Concluding, ConcludeReady}
@@ -54,17 +54,17 @@ first l = record {
   atomicity = NonAtomic;
 }
 
-pub first-is : (l : ℕ) (tokens scratch : List ℕ) → view tokens scratch (first l) ≡ Pest.new l
+pub first_is : (l : ℕ) (tokens scratch : List ℕ) → view tokens scratch (first l) ≡ Pest.new l
 unfolding numbers pairs queue_of
-first-is l tokens scratch = ap (λ (x : Option CallLimit). record { position = 0; queue = []; lookahead = None; pos_attempts = []; neg_attempts = []; attempt_pos = 0; atomicity = NonAtomic; stack = record { cache = []; popped = []; lengths = [] }; call_tracker = record { current_call_limit = x; limit_reached = none } }) (limit_is l)
+first_is l tokens scratch = ap (λ (x : Option CallLimit). record { position = 0; queue = []; lookahead = None; pos_attempts = []; neg_attempts = []; attempt_pos = 0; atomicity = NonAtomic; stack = record { cache = []; popped = []; lengths = [] }; call_tracker = record { current_call_limit = x; limit_reached = none } }) (limit_is l)
 
 -- ── A refused run ──
-pub refused_is : (i : Input) (scratch : List ℕ) (n p : ℕ) → By n p ≡ refused-of (refusal i)
+pub refused_is : (i : Input) (scratch : List ℕ) (n p : ℕ) → By n p ≡ refused_of (refusal i)
     → Ran i (refused i (record { number = n; place = p })) scratch scratch
 unfolding outcome
 refused_is i scratch n p h = record { is = go (refusal i) h; left = λ r e. refl }
   where
-    go : (o : Option Refusal) → By n p ≡ refused-of o → refused i (record { number = n; place = p }) ≡ (elim o as (λ _. Outcome) [ some r ↦ refused i r | none ↦ started i (answer (reading i)) ])
+    go : (o : Option Refusal) → By n p ≡ refused_of o → refused i (record { number = n; place = p }) ≡ (elim o as (λ _. Outcome) [ some r ↦ refused i r | none ↦ started i (answer (reading i)) ])
     go none e = let z : ◌≡◌ {A = ℕ} 0 1 = cc in absurd (omega arith)
     go (some r) e =
         let a : n ≡ r.number = cc in

@@ -22,7 +22,7 @@ use Rattle.reading.specs.Sound.{Fits, fits_one}
 use Rattle.engine.specs.StackReady.{StackReady, OutsideStack}
 use Rattle.reading.proofs.StackLaws.{pest}
 use Rattle.reading.proofs.SoundLaws.{fits_high}
-use Rattle.engine.proofs.Regions.{outside_put, pairs_put, pairs_length, pairs_same, pairs-last, pairs_drop, same_above, same_below, stack_refl, stack_trans, stack_below, stack_above}
+use Rattle.engine.proofs.Regions.{outside_put, pairs_put, pairs_length, pairs_same, pairs_last, pairs_drop, same_above, same_below, stack_refl, stack_trans, stack_below, stack_above}
 use Rattle.engine.proofs.Moves.{drained_outside, drained_pairs, refilled_outside, refilled_pairs}
 
 abbrev pub counts : (height popped checkpoints : ℕ) → Stack
@@ -125,7 +125,7 @@ module _ (a : List ℕ) (s : Stack) (r : StackReady a s) where
     low = top.second
 
     lengths_is : marks c ≡ checkpoint tall low ∷ marks (c - 1)
-    lengths_is = rw et (pairs-last checkpoint a 2816 c (c - 1) (omega arith))
+    lengths_is = rw et (pairs_last checkpoint a 2816 c (c - 1) (omega arith))
 
     pub top_is : Top h p tall low (debt (marks (c - 1)))
     top_is = top_fits p (rw lengths_is at fits_is) (rw lengths_is at owed_is)
@@ -143,7 +143,7 @@ module _ (a : List ℕ) (s : Stack) (r : StackReady a s) where
     gone_is = ap₂ span ew.0 ew.1
 
     cache_is : entries h ≡ gone ∷ entries (h - 1)
-    cache_is = rw (gone_is, ex) (pairs-last span a 0 h (h - 1) (omega arith))
+    cache_is = rw (gone_is, ex) (pairs_last span a 0 h (h - 1) (omega arith))
 
     pub pop_free : c ≡ 0 → (got (stack_of a (counts (h - 1) p c)) gone ≡ taken (stack_of a s)) × OutsideStack a a
     unfolding pairs
@@ -211,7 +211,7 @@ module _ (a : List ℕ) (s : Stack) (r : StackReady a s) where
 
     module _ (more : c ≡ 1 → ⊥) (outer : Pair) (eo : outer ≡ pair a (2816 + (c - 2) * 2)) where
       outer_is : marks (c - 1) ≡ checkpoint outer.first outer.second ∷ marks (c - 2)
-      outer_is = rw eo (pairs-last checkpoint a 2816 (c - 1) (c - 2) (omega arith))
+      outer_is = rw eo (pairs_last checkpoint a 2816 (c - 1) (c - 2) (omega arith))
 
       pub outer_top : Top top.first (debt (marks (c - 1))) outer.first outer.second (debt (marks (c - 2)))
       outer_top =

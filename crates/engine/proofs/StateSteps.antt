@@ -27,7 +27,7 @@ use Rattle.engine.specs.Fields.{ParserState}
 use Rattle.reading.specs.declared.parser_state.Cause.TheVariants.{EmptyStack, StackFull}
 use Rattle.reading.specs.Ending.{if◌then◌else◌, Ending, Ok, Err, Stop, stop_if, Span}
 use Rattle.reading.specs.Reading.{debt}
-use Rattle.reading.specs.Pest.{set_position, set_stack, push, pop, as_str, moved, stack-pop, stack_match_pop, stack_match_peek_slice, normalize_index, normalize_end, slice, all_match}
+use Rattle.reading.specs.Pest.{set_position, set_stack, push, pop, as_str, moved, stack_pop, stack_match_pop, stack_match_peek_slice, normalize_index, normalize_end, slice, all_match}
 use Rattle.engine.specs.Areas.{span, stack_of, view, view_end}
 use Rattle.engine.specs.Bounded.{Push, kept, Take, got, pushed, taken, taken_from, push_of, take_of}
 use Rattle.reading.specs.Sound.{Sound}
@@ -120,9 +120,9 @@ module _ {a b : List ℕ} {s : ParserState} (r : StateReady a s) {v : Stack} (ev
 
 -- ── stack_pop ──
 module _ (text : List ℕ) (line : ℕ) (m : Pest.ParserState) where
-  step_got : (w : Pest.Stack) (x : Span) → Took m.stack w x → moved (Pest.match_string text (as_str text x) m.position) (set_stack w m) ≡ stack-pop text true line m.stack.cache m
+  step_got : (w : Pest.Stack) (x : Span) → Took m.stack w x → moved (Pest.match_string text (as_str text x) m.position) (set_stack w m) ≡ stack_pop text true line m.stack.cache m
   step_got w x t =
-      sym (ap (λ (c : List Span). stack-pop text true line c m) t.cache
+      sym (ap (λ (c : List Span). stack_pop text true line c m) t.cache
       ∙ pick (ltb 1024 (debt (pop x w.cache m.stack).lengths)) (sym (ap (λ (u : Pest.Stack). ltb 1024 (debt u.lengths)) t.is) ∙ le-ltb 1024 (debt w.lengths) t.owing)
       ∙ ap (λ (u : Pest.Stack). moved (Pest.match_string text (as_str text x) m.position) (set_stack u m)) (sym t.is))
     where
@@ -131,25 +131,25 @@ module _ (text : List ℕ) (line : ℕ) (m : Pest.ParserState) where
           ≡ moved (Pest.match_string text (as_str text x) m.position) (set_stack (pop x w.cache m.stack) m)
       pick b e = rw e
 
-  step_empty : Take.empty ≡ taken m.stack → Stop (EmptyStack line) ≡ stack-pop text true line m.stack.cache m
+  step_empty : Take.empty ≡ taken m.stack → Stop (EmptyStack line) ≡ stack_pop text true line m.stack.cache m
   step_empty e = go m.stack.cache e
     where
       pick : (b : Bool) (v : Pest.Stack) (y : Span) → Take.empty ≡ (if b then Take.full else got v y) → ⊥
       pick true v y q = let z : ◌≡◌ {A = ℕ} 0 1 = cc in omega arith
       pick false v y q = let z : ◌≡◌ {A = ℕ} 0 1 = cc in omega arith
 
-      go : (c : List Span) → Take.empty ≡ taken_from c m.stack → Stop (EmptyStack line) ≡ stack-pop text true line c m
+      go : (c : List Span) → Take.empty ≡ taken_from c m.stack → Stop (EmptyStack line) ≡ stack_pop text true line c m
       go [] e = refl
       go (y ∷ rest) e = absurd (pick (ltb 1024 (debt (pop y rest m.stack).lengths)) (pop y rest m.stack) y e)
 
-  step_full : Take.full ≡ taken m.stack → Stop (StackFull line) ≡ stack-pop text true line m.stack.cache m
+  step_full : Take.full ≡ taken m.stack → Stop (StackFull line) ≡ stack_pop text true line m.stack.cache m
   step_full e = go m.stack.cache e
     where
       pick : (b : Bool) (v : Pest.Stack) (y : Span) (k : Unit {0} → Ending Pest.ParserState) → Take.full ≡ (if b then Take.full else got v y) → Stop (StackFull line) ≡ stop_if b (StackFull line) k
       pick true v y k q = refl
       pick false v y k q = let z : ◌≡◌ {A = ℕ} 0 1 = cc in absurd (omega arith)
 
-      go : (c : List Span) → Take.full ≡ taken_from c m.stack → Stop (StackFull line) ≡ stack-pop text true line c m
+      go : (c : List Span) → Take.full ≡ taken_from c m.stack → Stop (StackFull line) ≡ stack_pop text true line c m
       go [] e = let z : ◌≡◌ {A = ℕ} 0 1 = cc in absurd (omega arith)
       go (y ∷ rest) e =
           pick (ltb 1024 (debt (pop y rest m.stack).lengths)) (pop y rest m.stack) y
@@ -163,7 +163,7 @@ module _ (text : List ℕ) (line : ℕ) {a b : List ℕ} {s : ParserState} (r : 
   pub pop_moved : (w : Stack) (x : Code.Span) → p ≡ Popped.Got w x → {t : ParserState} → t ≡ Fields.set_stack w s → (bytes : List ℕ) → bytes ≡ bytes_of text x.start.0 x.end.0
       → {y : BytePosition} → y ≡ s.position → (q : Matched) → q ≡ matched (match_string text bytes y.0)
       → (end : ParserState) (z : Code·ending.Ending) → ((tokens scratch : List ℕ) → view_end tokens scratch end z ≡ moved (match_of q) (view tokens scratch t))
-      → ((tokens : List ℕ) → view_end tokens b end z ≡ stack-pop text true line (stack_of a s.stack).cache (view tokens a s)) × OutsideStack a b
+      → ((tokens : List ℕ) → view_end tokens b end z ≡ stack_pop text true line (stack_of a s.stack).cache (view tokens a s)) × OutsideStack a b
   pop_moved w x f et bytes eb {y} ey q eq end z ez = (
     λ tokens.
         ez tokens b
@@ -174,10 +174,10 @@ module _ (text : List ℕ) (line : ℕ) {a b : List ℕ} {s : ParserState} (r : 
     e.1,
   )
 
-  pub pop_stopped : p ≡ Popped.Empty → ((tokens : List ℕ) → Stop (EmptyStack line) ≡ stack-pop text true line (stack_of a s.stack).cache (view tokens a s)) × OutsideStack a b
+  pub pop_stopped : p ≡ Popped.Empty → ((tokens : List ℕ) → Stop (EmptyStack line) ≡ stack_pop text true line (stack_of a s.stack).cache (view tokens a s)) × OutsideStack a b
   pop_stopped f = (λ tokens. step_empty text line (view tokens a s) (rw f at took_of), e.1)
 
-  pub pop_indebted : p ≡ Popped.Full → ((tokens : List ℕ) → Stop (StackFull line) ≡ stack-pop text true line (stack_of a s.stack).cache (view tokens a s)) × OutsideStack a b
+  pub pop_indebted : p ≡ Popped.Full → ((tokens : List ℕ) → Stop (StackFull line) ≡ stack_pop text true line (stack_of a s.stack).cache (view tokens a s)) × OutsideStack a b
   pop_indebted f = (λ tokens. step_full text line (view tokens a s) (rw f at took_of), e.1)
 
 -- ── stack_match_pop ──

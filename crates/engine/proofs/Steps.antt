@@ -21,7 +21,7 @@ use Rattle.engine.specs.Fields as Code
 use Rattle.engine.specs.Fields.{state_size}
 use Rattle.reading.specs.declared.parser_state.Ending as Coded
 use Rattle.reading.specs.declared.parser_state.Ending.TheVariants as Coded-of
-use Rattle.reading.specs.Ending.{if◌then◌else◌, Ending, Ok, Err, Stop, on-ok, stop_if}
+use Rattle.reading.specs.Ending.{if◌then◌else◌, Ending, Ok, Err, Stop, on_ok, stop_if}
 use Rattle.reading.specs.Grammar as Grammar
 use Rattle.reading.specs.Grammar.{Exp, tree_at}
 use Rattle.reading.specs.Nullable.{nullable}
@@ -335,14 +335,14 @@ module _ (ns : List ℤ) (literals text : List ℕ) (capacity : ℕ) where
     abbrev rule_over : (line r : ℕ) → Ending ParserState → Ending ParserState
     rule_over line r x = Pest.rule_end g true line r n.position (length n.queue) (noted n.position (tried_of n)).positives (noted n.position (tried_of n)).negatives (noted n.position (tried_of n)).total x
 
-    rule_whole : (line r : ℕ) → opened n ≡ entering (ltb 0 d) true m → on-ok (starting g line n) (λ k. rule_over line r (E (d - 1) B k)) ≡ E d (Grammar.rule line r B) m
+    rule_whole : (line r : ℕ) → opened n ≡ entering (ltb 0 d) true m → on_ok (starting g line n) (λ k. rule_over line r (E (d - 1) B k)) ≡ E d (Grammar.rule line r B) m
     rule_whole line r o = sym (rule_is g line r (E (d - 1) B) n) ∙ entry_open (Grammar.rule line r B) true (λ f k. Pest.rule g true line r (f B) k) (λ room f k. refl) d m n o
 
     pub rule_err : (line r : ℕ) → opened n ≡ entering (ltb 0 d) true m → (u : ParserState) → Err u ≡ starting g line n → Err u ≡ E d (Grammar.rule line r B) m
-    rule_err line r o u w = ap (λ (e : Ending ParserState). on-ok e (λ k. rule_over line r (E (d - 1) B k))) w ∙ rule_whole line r o
+    rule_err line r o u w = ap (λ (e : Ending ParserState). on_ok e (λ k. rule_over line r (E (d - 1) B k))) w ∙ rule_whole line r o
 
     pub rule_stop : (line r : ℕ) → opened n ≡ entering (ltb 0 d) true m → (c : Cause) → Stop c ≡ starting g line n → Stop c ≡ E d (Grammar.rule line r B) m
-    rule_stop line r o c w = ap (λ (e : Ending ParserState). on-ok e (λ k. rule_over line r (E (d - 1) B k))) w ∙ rule_whole line r o
+    rule_stop line r o c w = ap (λ (e : Ending ParserState). on_ok e (λ k. rule_over line r (E (d - 1) B k))) w ∙ rule_whole line r o
 
     pub rule_step : (line r : ℕ) → opened n ≡ entering (ltb 0 d) true m → (u : ParserState) → Ok u ≡ starting g line n → (x : Ending ParserState) → x ≡ E (d - 1) B u → (i : ℕ) → length n.queue ≡ i
         → (p : ℕ) → n.position ≡ p → (w : Noted) → w ≡ noted p (tried_of n) → (y : Ending ParserState) → y ≡ Pest.rule_end g true line r p i w.positives w.negatives w.total x → y ≡ E d (Grammar.rule line r B) m
@@ -350,7 +350,7 @@ module _ (ns : List ℤ) (literals text : List ℕ) (capacity : ℕ) where
         z ∙ ap₂ (λ (j : ℕ) (v : Noted). Pest.rule_end g true line r p j v.positives v.negatives v.total x) (sym q) h
         ∙ ap (λ (j : ℕ). Pest.rule_end g true line r j (length n.queue) (noted j (tried_of n)).positives (noted j (tried_of n)).negatives (noted j (tried_of n)).total x) (sym k)
         ∙ ap (rule_over line r) f
-        ∙ ap (λ (e : Ending ParserState). on-ok e (λ k. rule_over line r (E (d - 1) B k))) s
+        ∙ ap (λ (e : Ending ParserState). on_ok e (λ k. rule_over line r (E (d - 1) B k))) s
         ∙ rule_whole line r o
 
   -- The state with the rule's Start.

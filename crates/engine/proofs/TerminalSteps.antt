@@ -133,14 +133,14 @@ module _ (ns : List ℤ) (literals text : List ℕ) (capacity d : ℕ) (w : Acce
       (tree 4 q (λ x. Grammar.skip x.a) (tree_kind ns literals w l i.low i.high 4 (kind_of ns literals w l i n e 4 q))) (λ room h k. refl) m y
       (z ∙ ap (λ (o : Option ℕ). Pest.moved o m) (skip_same text n.a m.position f.edge.inside))
 
-  pub end_5 : n.kind ≡ 5 → (m : ParserState) (y : Ending ParserState) → y ≡ (if Position.at-end text m.position then Ok m else Err m) → y ≡ At m
+  pub end_5 : n.kind ≡ 5 → (m : ParserState) (y : Ending ParserState) → y ≡ (if Position.at_end text m.position then Ok m else Err m) → y ≡ At m
   end_5 q m y z =
-      by_kind 5 Grammar.end_of_input (λ k. if Pest.at-end text k.position then Ok k else Err k)
+      by_kind 5 Grammar.end_of_input (λ k. if Pest.at_end text k.position then Ok k else Err k)
       (tree_kind ns literals w l i.low i.high 5 (kind_of ns literals w l i n e 5 q)) (λ room f k. refl) m y z
 
-  pub end_15 : n.kind ≡ 15 → (m : ParserState) (y : Ending ParserState) → y ≡ Pest.stack-pop text true l m.stack.cache m → y ≡ At m
+  pub end_15 : n.kind ≡ 15 → (m : ParserState) (y : Ending ParserState) → y ≡ Pest.stack_pop text true l m.stack.cache m → y ≡ At m
   end_15 q m y z =
-      by_kind 15 (Grammar.stack-pop l) (λ k. Pest.stack-pop text true l k.stack.cache k) (tree_kind ns literals w l i.low i.high 15 (kind_of ns literals w l i n e 15 q)) (λ room f k. refl) m y z
+      by_kind 15 (Grammar.stack_pop l) (λ k. Pest.stack_pop text true l k.stack.cache k) (tree_kind ns literals w l i.low i.high 15 (kind_of ns literals w l i n e 15 q)) (λ room f k. refl) m y z
 
   -- x and y: the two ends as the code passes them on.
   pub end_16 : n.kind ≡ 16 → (v : Ends) → v ≡ ends_of (node_at ns l) → (x y : ℤ) → x ≡ v.start → y ≡ v.end → (m : ParserState) (r : Ending ParserState)

@@ -213,7 +213,7 @@ module _ (ns : List ℤ) (literals text : List ℕ) (capacity d : ℕ) where
         climbed o f = go (is_fork ns top)
           where
             from : (j : ℕ) → i ≡ j → x ≡ at_line (spine_line ns top j) m
-            from j e = c.runs m (Climbs.low-is ns literals text capacity d fk top here.low here.high p w x₀ m f) ∙ ap (λ (j : ℕ). at_line (spine_line ns top j) m) e
+            from j e = c.runs m (Climbs.low_is ns literals text capacity d fk top here.low here.high p w x₀ m f) ∙ ap (λ (j : ℕ). at_line (spine_line ns top j) m) e
 
             go : Below ns top → x ≡ at_line (below ns top) m
             go (left k e) =

@@ -2,7 +2,7 @@
 ghost use Rattle.std.specs.Prelude.{◌≡◌, true, ◌||◌, List, ℕ, ◌≤◌, ◌<◌, eqb, ltb, length};
 ghost use Rattle.std.proofs.Math.Option.{none, some};
 ghost use Rattle.reading.specs.Ending.{if◌then◌else◌, Ok};
-ghost use Rattle.reading.specs.Pest.{checkpoint, checkpoint_ok, restored, moved, push_end, stack-pop, stack_match_peek_slice, stack_match_pop};
+ghost use Rattle.reading.specs.Pest.{checkpoint, checkpoint_ok, restored, moved, push_end, stack_pop, stack_match_peek_slice, stack_match_pop};
 ghost use Rattle.engine.specs.Fields.{state_size, fields};
 ghost use Rattle.engine.specs.Areas.{stack_of, view, view_end};
 ghost use Rattle.engine.specs.StackReady.{StackReady, StateReady, PushReady, OutsideStack, most_checkpoints};
@@ -90,7 +90,7 @@ pub(crate) fn stack_push_end(
 pub(crate) fn stack_pop(text: &[u8], scratch: &mut [u32], s: &mut [usize], line: u32) -> Ending
     requires state_size_in_bounds { state_size ≤ length s.old }
     requires state_ready { StateReady scratch.old (fields s.old) }
-    ensures by_index { (tokens : List ℕ) → view_end tokens scratch.new (fields s.new) result ≡ stack-pop text.now true line (stack_of scratch.old (fields s.old).stack).cache (view tokens scratch.old (fields s.old)) }
+    ensures by_index { (tokens : List ℕ) → view_end tokens scratch.new (fields s.new) result ≡ stack_pop text.now true line (stack_of scratch.old (fields s.old).stack).cache (view tokens scratch.old (fields s.old)) }
     ensures outside_stack { OutsideStack scratch.old scratch.new }
 {
     let v = stack(s);

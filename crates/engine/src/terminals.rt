@@ -31,7 +31,7 @@ pub(crate) fn match_literal<'a>(
 
 // Kind 5: a match of no bytes at the end, by the position's own test.
 pub(crate) fn match_end(text: &[u8], p: BytePosition) -> Matched
-    ensures { match_of result ≡ (if Position.at-end text.now p.0 then some p.0 else none) }
+    ensures { match_of result ≡ (if Position.at_end text.now p.0 then some p.0 else none) }
 {
     if end_of_input(text, p) {
         Matched::At(p)

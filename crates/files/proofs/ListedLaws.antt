@@ -17,7 +17,7 @@ use Rattle.reading.specs.Ending.{Ending, Ok, Err, Stop}
 use Rattle.reading.specs.Forest.{Token, tokens}
 use Rattle.reading.specs.Reading.{State}
 use Rattle.reading.specs.Outcome.{Input, Refusal, refusal, reading, Answer, answer, of_limit, of_tokens, report_of, of_failure, ascending, laid, started, refused, Outcome, outcome}
-use Rattle.reading.proofs.Exact.{length-numbers}
+use Rattle.reading.proofs.Exact.{length_numbers}
 use Rattle.sheet.specs.Area.{over}
 use Rattle.sheet.specs.Sheet as Sheet
 use Rattle.sheet.specs.Listing.{listing, whole, ListingWritten}
@@ -32,7 +32,7 @@ data Counted (o : Outcome) : Type 0 where
 
 module _ (n m : ℕ) where
   in_tokens : (ts : List Token) → Counted (laid n m (of_tokens ts))
-  in_tokens ts = by_tokens (simp length-append (omega (arith, length-numbers ts)))
+  in_tokens ts = by_tokens (simp length-append (omega (arith, length_numbers ts)))
 
   in_report : (f : ℕ) (ps ns : List ℕ) → Counted (laid n m (of_failure f ps ns))
   in_report f ps ns =
@@ -82,7 +82,7 @@ answer_is (Sheet.read k ns) g b a = a.is
 
 module _
     (s l t before after : List ℕ) (r : ℕ) (nodes : List ℤ) (b : Back) (ran : SheetRun s (replicate node_area (pos 0)) nodes (given l t) b)
-    (in_t : length b.tokens ≡ 16380) (in-r : length b.report ≡ 515)
+    (in_t : length b.tokens ≡ 16380) (in_r : length b.report ≡ 515)
     (w : ListingWritten b.answer b.tokens b.report before after r) where
   back_is : outcome_of b.answer b.tokens b.report ≡ answer_to (Sheet.reading s node_area) (given l t)
   back_is =
@@ -98,7 +98,7 @@ module _
       let c : Counted (outcome_of b.answer b.tokens b.report) = subst Counted (sym back_is) (answer_counted (Sheet.reading s node_area) (given l t)) in
       record {
         written = rw (← listing_is) w.written;
-        most = rw (← listing_is) (omega (arith, w.most, few _ c in_t in-r));
+        most = rw (← listing_is) (omega (arith, w.most, few _ c in_t in_r));
       }
 
 -- An area of 199,897 bytes gets the whole listing: planread prints it all.

@@ -194,17 +194,17 @@ module _ {M : Type 1} {𝓤 : Ura M} (𝓛 : Logic 𝓤) (at_mem : Memory → SP
         move ! (0 ∷ 5 ∷ []) $ use2 𝓛 (later (‵ (fdead (a ∷ κ)) ⊛ ‵ (flft κ (PosShare.left q)))) (within_end 𝓛 a κ (PosShare.left q)) $ await ! tt $ split ! $
         move ! (1 ∷ 2 ∷ []) $ use2 𝓛 (‵ (flft κ q)) (𝓛.lfts.lft_join κ q) $
         move ! (1 ∷ 4 ∷ 2 ∷ []) $ use3 𝓛 (later (‵ (part_at (R κ) full_share w l₃ 0))) (ref_back 𝓛 (R κ) (a ∷ κ) δ w l₃ 0) $ await ! tt $
-        use1 𝓛 (given (Is (R κ) w (T'.lowered w ∷ [])) (‵ (Cell l₃ w) ⊛ ‵ (Owned κ w))) (lies_out 𝓛 κ w l₃) $ learn ! (λ is-w. split ! $
+        use1 𝓛 (given (Is (R κ) w (T'.lowered w ∷ [])) (‵ (Cell l₃ w) ⊛ ‵ (Owned κ w))) (lies_out 𝓛 κ w l₃) $ learn ! (λ is_w. split ! $
         -- [_3; what the position owns; the token; Keeps; true; the text; _7; …; _6; …; _5; …; _4; …; (_3's end); _2; …; _1; …; _0; …]: it is asked for its number
-        assigns ! (of_opd ! (load ! (from ! (stop !)) (look ! 0 refl))) (from ! (stop !)) (store ! 8 refl ((LL.lawful (T.the_type (record { mir = erased; lft = κ })) (T'.the_laws (record { mir = erased; lft = κ })) 𝓛).typed w _ is-w).0) $
+        assigns ! (of_opd ! (load ! (from ! (stop !)) (look ! 0 refl))) (from ! (stop !)) (store ! 8 refl ((LL.lawful (T.the_type (record { mir = erased; lft = κ })) (T'.the_laws (record { mir = erased; lft = κ })) 𝓛).typed w _ is_w).0) $
         move ! (2 ∷ 1 ∷ []) $ use2 𝓛 (raw ((Number 𝓛 at_mem run).pre (to_number w))) (goes_number w) $
         calls_at ! fm (Number 𝓛 at_mem run) known_number (to_number w) (and_then ! (load ! (from ! (stop !)) (look ! 7 refl)) (no_more !)) (λ u''.
         use1 𝓛 (later (some (λ (n : ℕ). ((‵ (flft κ q) ⊛ ‵ ftrue) ⊛ ‵ (usize.own_val n (u'' ∷ []))) ⊛ raw (ensured 𝓛 number.ended (number.clauses 𝓛 at_mem run) (κ, tt) (w, tt) tt n)))) (id⊢ 𝓤 _) $ await ! tt $ pick ! (λ n.
-        split ! $ move ! (1 ∷ []) $ drop ! $ split ! $ move ! (1 ∷ []) $ peeks ! usize (Is usize) (shows 𝓛 usize) n (u'' ∷ []) (λ is-n.
+        split ! $ move ! (1 ∷ []) $ drop ! $ split ! $ move ! (1 ∷ []) $ peeks ! usize (Is usize) (shows 𝓛 usize) n (u'' ∷ []) (λ is_n.
         -- [the number; the token; _3; Keeps; true; the text; _7; …; _6; …; _5; …]
-        land ! (from ! (stop !)) (init ! 10 refl ((uint_Lawful 𝓛 w64).typed n _ is-n).0) $ rewrite ! 10 (λ (y : Val). ‵ (fat full_share (ty_int w64) l₅ 0 y)) (ap only (uint_Tells w64 n _ is-n)) refl $
-        rewrite ! 0 (λ (us : List Val). ‵ (usize.own_val n us)) (uint_Tells w64 n _ is-n) refl $ peeks ! usize (Is usize) (shows 𝓛 usize) n (vint w64 n ∷ []) (λ is-v. drop ! $
-        assigns ! (agg ! (and_then ! (load ! (from ! (stop !)) (look ! 9 refl)) (and_then ! (load ! (from ! (stop !)) (look ! 11 refl)) (no_more !)))) (from ! (stop !)) (init ! 18 refl ((LL.lawful N.the_type N'.the_laws 𝓛).typed (result t n) _ (is_result t n is-v)).0) $
+        land ! (from ! (stop !)) (init ! 10 refl ((uint_Lawful 𝓛 w64).typed n _ is_n).0) $ rewrite ! 10 (λ (y : Val). ‵ (fat full_share (ty_int w64) l₅ 0 y)) (ap only (uint_Tells w64 n _ is_n)) refl $
+        rewrite ! 0 (λ (us : List Val). ‵ (usize.own_val n us)) (uint_Tells w64 n _ is_n) refl $ peeks ! usize (Is usize) (shows 𝓛 usize) n (vint w64 n ∷ []) (λ is_v. drop ! $
+        assigns ! (agg ! (and_then ! (load ! (from ! (stop !)) (look ! 9 refl)) (and_then ! (load ! (from ! (stop !)) (look ! 11 refl)) (no_more !)))) (from ! (stop !)) (init ! 18 refl ((LL.lawful N.the_type N'.the_laws 𝓛).typed (result t n) _ (is_result t n is_v)).0) $
         returns ! (look ! 18 refl) $ forget ! 1 refl $ forget ! 5 refl $ forget ! 7 refl $ forget ! 9 refl $ forget ! 11 refl $ forget ! 14 refl $ forget ! 16 refl $ forget ! 18 refl $
         move ! (18 ∷ 19 ∷ []) $ free1 ! $ move ! (16 ∷ 17 ∷ []) $ free1 ! $ move ! (14 ∷ 15 ∷ []) $ free1 ! $ move ! (1 ∷ 13 ∷ []) $ free1 ! $ move ! (10 ∷ 11 ∷ []) $ free1 ! $ move ! (8 ∷ 9 ∷ []) $ free1 ! $ move ! (6 ∷ 7 ∷ []) $ free1 ! $ move ! (4 ∷ 5 ∷ []) $ free1 ! $ free0 ! $
-        split ! $ move ! (0 ∷ 4 ∷ 2 ∷ []) $ keep ! (0 ∷ 1 ∷ 2 ∷ []) $ by ! (exits t n is-v))))))))))))))))))))))))
+        split ! $ move ! (0 ∷ 4 ∷ 2 ∷ []) $ keep ! (0 ∷ 1 ∷ 2 ∷ []) $ by ! (exits t n is_v))))))))))))))))))))))))

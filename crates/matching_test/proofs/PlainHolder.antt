@@ -80,10 +80,10 @@ module _ {M : Type 1} {𝓤 : Ura M} (𝓛 : Logic 𝓤) (E : RattleType) (τ : 
         frame ! $ frame ! $ done !
 
     exits : (t : Bool) (n : ℕ) → Is usize n (vint w64 n ∷ []) → ent 𝓤 Held (Post (LL.val N.the_type N'.the_laws (result t n)))
-    exits t n is-n =
+    exits t n is_n =
         qed 𝓛 (‵ (flft κ q) ∷ ‵ (OwnText (α₁ κ) s) ∷ ‵ ftrue ∷ []) ∵
         suffices ! _ (ends_at 𝓛 (ended E) (stayed E) (clauses E 𝓤) (((κ, tt), (q, tt), tt, (s, (e, tt)), at), tt) (LL.val N.the_type N'.the_laws (result t n)) (result t n) (tt, (F.last e, tt)) (tt, (tt, tt))) $
-        owned ! N.the_row (Is N.the_row) (LL.makes N.the_type N'.the_plain 𝓛) (result t n) _ (is_result t n is-n) $
+        owned ! N.the_row (Is N.the_row) (LL.makes N.the_type N'.the_plain 𝓛) (result t n) _ (is_result t n is_n) $
         nothing ! $ owned ! E (Is E) F.makes e _ is $ fjoin ! $ move ! (3 ∷ 0 ∷ []) $ fjoin ! $ join ! $ move ! (1 ∷ 2 ∷ []) $ join ! $ join ! $ frame ! $ done !
 
     -- the call of the matcher, on the local at l under the name δ, for the lifetime a within κ

@@ -86,10 +86,10 @@ module _ {M : Type 1} {𝓤 : Ura M} (𝓛 : Logic 𝓤) (f : (input string : Li
         move ! (3 ∷ 2 ∷ 0 ∷ []) $ keep ! (0 ∷ 1 ∷ 2 ∷ []) $ done !
 
     exits : (t : Bool) (n : ℕ) → Is usize n (vint w64 n ∷ []) → ent 𝓤 Held (Post (LL.val N.the_type N'.the_laws (result t n)))
-    exits t n is-n =
+    exits t n is_n =
         qed 𝓛 (‵ (flft κ q) ∷ ‵ (OwnText (α₁ κ) s) ∷ ‵ (OwnText (α₁ κ) x) ∷ []) ∵
         suffices ! _ (ends_at 𝓛 ended stayed (clauses 𝓤) (((κ, tt), (q, tt), tt, (s, (x, tt)), at), tt) (LL.val N.the_type N'.the_laws (result t n)) (result t n) (tt, (tt, tt)) (tt, (tt, tt))) $
-        owned ! N.the_row (Is N.the_row) (LL.makes N.the_type N'.the_plain 𝓛) (result t n) _ (is_result t n is-n) $
+        owned ! N.the_row (Is N.the_row) (LL.makes N.the_type N'.the_plain 𝓛) (result t n) _ (is_result t n is_n) $
         nothing ! $ move ! (4 ∷ 0 ∷ []) $ fjoin ! $ move ! (3 ∷ 0 ∷ []) $ fjoin ! $ join ! $ nothing ! $ move ! (2 ∷ 0 ∷ []) $ join ! $ join ! $ frame ! $ done !
 
     -- the shares of the text's token: for the position, and for the parameter

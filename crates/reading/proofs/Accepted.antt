@@ -17,7 +17,7 @@ use Rattle.matching.specs.Utf8.{within, Utf8, is_utf8}
 use Rattle.matching.proofs.Lead.{and_left, and_right, within_true, within_is}
 use Rattle.matching.proofs.Characters.{is_utf8_iff}
 use Rattle.reading.specs.Ending.{if◌then◌else◌}
-use Rattle.reading.specs.Grammar.{Node, node_at, natural, kind_at, line_count, row, first_line, between, nil, scalar, count, name, edge, literal_part, called, field_rows, fields_fit, line_fits, misfit, Exp, match_string, match_insensitive, match_range, skip, end_of_input, and_then, or_else, rule, sequence, repeat, optional, lookahead, atomic, stack_push, stack-pop, stack_match_pop, restore_on_err, tag_node, call, atomicity_of, peek_slice, tree_of, trees, tree_at, rule_at, plain_line, plain}
+use Rattle.reading.specs.Grammar.{Node, node_at, natural, kind_at, line_count, row, first_line, between, nil, scalar, count, name, edge, literal_part, called, field_rows, fields_fit, line_fits, misfit, Exp, match_string, match_insensitive, match_range, skip, end_of_input, and_then, or_else, rule, sequence, repeat, optional, lookahead, atomic, stack_push, stack_pop, stack_match_pop, restore_on_err, tag_node, call, atomicity_of, peek_slice, tree_of, trees, tree_at, rule_at, plain_line, plain}
 use Rattle.reading.specs.Nullable.{still_rows, stands_still, nullable, still_repeat}
 use Rattle.reading.specs.Outcome.{Input, Refusal, refuse, unless, good_text, first_of, tests, refusal}
 use Rattle.reading.proofs.EdgeLaws as EdgeLaws
@@ -25,9 +25,9 @@ use Rattle.reading.proofs.NullableLaws.{nullable_is}
 use Rattle.reading.proofs.Trees.{still, Steady, Literals, Calls, whole, Plain}
 
 -- ── A search that finds nothing ──
-first-none : (test : ℕ → Bool) (l n : ℕ) → first_line test l n ≡ none → (k : ℕ) → l ≤ k → k < l + n → test k ≡ false
-first-none test l zero e k lo hi = absurd (omega arith)
-first-none test l (suc n) e k lo hi = go (test l) refl e (first-none test (suc l) n) (dec_le (suc l) k)
+first_none : (test : ℕ → Bool) (l n : ℕ) → first_line test l n ≡ none → (k : ℕ) → l ≤ k → k < l + n → test k ≡ false
+first_none test l zero e k lo hi = absurd (omega arith)
+first_none test l (suc n) e k lo hi = go (test l) refl e (first_none test (suc l) n) (dec_le (suc l) k)
   where
     go : (b : Bool) → test l ≡ b → (if b then some l else first_line test (suc l) n) ≡ none
         → (first_line test (suc l) n ≡ none → (k : ℕ) → suc l ≤ k → k < suc l + n → test k ≡ false) → Dec (suc l ≤ k) → test k ≡ false
@@ -36,7 +36,7 @@ first-none test l (suc n) e k lo hi = go (test l) refl e (first-none test (suc l
     go false t q r (no h) = let z : k ≡ l = omega arith in ap test z ∙ t
 
 pub none_found : (test : ℕ → Bool) (n : ℕ) → first_line test 1 n ≡ none → (k : ℕ) → 1 ≤ k → k ≤ n → test k ≡ false
-none_found test n e k lo hi = first-none test 1 n e k lo (omega arith)
+none_found test n e k lo hi = first_none test 1 n e k lo (omega arith)
 
 -- ── The tests passed ──
 pub record Accepted (ns : List ℤ) (literals : List ℕ) : Type 0 where
@@ -138,13 +138,13 @@ between_true low high (negsuc n) e = absurd (true≢false (sym e))
 lower_true : (l : ℕ) (z : ℤ) → between 1 (l - 1) z ≡ true → Lower l (natural z)
 lower_true l z e = let w : (1 ≤ natural z) × (natural z ≤ l - 1) = between_true 1 (l - 1) z e in record { low = w.0; high = omega arith }
 
-or-true : (x y : Bool) {A : Type 0} → (x || y) ≡ true → (x ≡ true → A) → (y ≡ true → A) → A
-or-true true y e f g = f refl
-or-true false y e f g = g e
+or_true : (x y : Bool) {A : Type 0} → (x || y) ≡ true → (x ≡ true → A) → (y ≡ true → A) → A
+or_true true y e f g = f refl
+or_true false y e f g = g e
 
 scalar_true : (z : ℤ) → scalar z ≡ true → natural z ≤ 0x10FFFF
 scalar_true z e =
-    or-true (between 0 0xD7FF z) (between 0xE000 0x10FFFF z) e
+    or_true (between 0 0xD7FF z) (between 0xE000 0x10FFFF z) e
     (λ p. omega (arith, (between_true 0 0xD7FF z p).1))
     (λ p. (between_true 0xE000 0x10FFFF z p).1)
 
@@ -206,7 +206,7 @@ module _ (ns : List ℤ) (literals : List ℕ) (l : ℕ) (e : line_fits ns liter
         a₁₃ = λ q. lower_true l n.a (first la (between 0 2 n.b) nc (row_true 13 q));
         b₁₃ = λ q. (between_true 0 2 n.b (second la (between 0 2 n.b) nc (row_true 13 q))).1;
         a₁₄ = λ q. lower_true l n.a (first la nb nc (row_true 14 q));
-        c₁₆ = λ q. or-true (between 0 1 n.c) (between 2 3 n.c && nil n.b) (row_true 16 q) (λ p. omega (arith, (between_true 0 1 n.c p).1)) (λ p. (between_true 2 3 n.c (and_left _ _ p)).1);
+        c₁₆ = λ q. or_true (between 0 1 n.c) (between 2 3 n.c && nil n.b) (row_true 16 q) (λ p. omega (arith, (between_true 0 1 n.c p).1)) (λ p. (between_true 2 3 n.c (and_left _ _ p)).1);
         a₁₈ = λ q. lower_true l n.a (first la nb nc (row_true 18 q));
         tag₁₉ = λ q. between_true 1 65535 n.a (first (name n.a) nb nc (row_true 19 q));
         call₂₀ = λ q. called_true ns literals n.a (first (called ns literals n.a) nb nc (row_true 20 q));
@@ -221,7 +221,7 @@ tree_rows literals lower line n =
     let literal : List ℕ = take b (drop a literals) in
     match_string literal ∷ match_insensitive literal ∷ match_range a b ∷ skip a ∷ end_of_input ∷ and_then (lower a) (lower b) ∷ or_else (lower a) (lower b)
     ∷ rule line a (lower b) ∷ sequence (lower a) ∷ repeat (lower a) ∷ optional (lower a) ∷ lookahead (eqb b 1) (lower a) ∷ atomic (atomicity_of b) (lower a)
-    ∷ stack_push line (lower a) ∷ stack-pop line ∷ peek_slice n ∷ stack_match_pop line ∷ restore_on_err (lower a) ∷ tag_node a ∷ call a ∷ []
+    ∷ stack_push line (lower a) ∷ stack_pop line ∷ peek_slice n ∷ stack_match_pop line ∷ restore_on_err (lower a) ∷ tag_node a ∷ call a ∷ []
 
 module _ (ns : List ℤ) (literals : List ℕ) where
   abbrev below_at : ℕ → ℕ → Exp
@@ -239,9 +239,9 @@ module _ (ns : List ℤ) (literals : List ℕ) where
   unfolding trees
   look_old n l lo hi = get_or-append (trees ns literals n) (new_at n ∷ []) end_of_input (l - 1) (rw (trees_length n) (omega arith))
 
-  look-new : (n : ℕ) → below_at (suc n) (suc n) ≡ new_at n
+  look_new : (n : ℕ) → below_at (suc n) (suc n) ≡ new_at n
   unfolding trees
-  look-new n =
+  look_new n =
       let e : suc n - 1 ≡ n = omega arith in
       rw e (get_or_at (trees ns literals n) (new_at n) [] end_of_input n (trees_length n))
 
@@ -259,7 +259,7 @@ module _ (ns : List ℤ) (literals : List ℕ) where
   tree_step zero lo hi = absurd (omega arith)
   tree_step (suc k) lo hi =
       let e : suc k - 1 ≡ k = omega arith in
-      look_up (line_count ns) (suc k) (suc k) (omega arith) (omega arith) hi ∙ look-new k ∙ ap (λ (m : ℕ). tree_of literals (trees ns literals m) (suc k) (node_at ns (suc k))) (sym e)
+      look_up (line_count ns) (suc k) (suc k) (omega arith) (omega arith) hi ∙ look_new k ∙ ap (λ (m : ℕ). tree_of literals (trees ns literals m) (suc k) (node_at ns (suc k))) (sym e)
 
   lower_tree : (l x : ℕ) → l ≤ line_count ns → Lower l x → below_at (l - 1) x ≡ tree_at ns literals x
   lower_tree l x hi w = sym (look_up (line_count ns) (l - 1) x w.low (omega (arith, w.high)) (omega (arith, w.high, w.low)))
@@ -311,11 +311,11 @@ module _ (ns : List ℤ) (literals : List ℕ) (g : Accepted ns literals) (l : �
       ▹ (λ q. ap (stack_push l) (down a (f.a₁₄ q))) ▹ (λ q. refl) ▹ (λ q. refl) ▹ (λ q. refl)
       ▹ (λ q. ap restore_on_err (down a (f.a₁₈ q))) ▹ (λ q. refl) ▹ (λ q. refl) ▹ tt)
 
-  -- The same at a kind: at 6, `tree-at l ≡ and_then (tree_at a) (tree_at b)`, and so for each.
+  -- The same at a kind: at 6, `tree_at l ≡ and_then (tree_at a) (tree_at b)`, and so for each.
   pub tree_kind : (k : ℕ) → kind_at ns l ≡ k → tree_at ns literals l ≡ get_or (tree_rows literals (tree_at ns literals) l (node_at ns l)) (k - 1) end_of_input
   tree_kind k q = tree_row ∙ ap (λ (j : ℕ). get_or (tree_rows literals (tree_at ns literals) l (node_at ns l)) (j - 1) end_of_input) q
 
-  -- `tree-kind` computes: kinds 6 and 20.
+  -- `tree_kind` computes: kinds 6 and 20.
   pub tree_6 : kind_at ns l ≡ 6 → tree_at ns literals l ≡ and_then (tree_at ns literals (natural (node_at ns l).a)) (tree_at ns literals (natural (node_at ns l).b))
   tree_6 q = tree_kind 6 q
 
@@ -342,7 +342,7 @@ module _ (ns : List ℤ) (literals : List ℕ) (g : Accepted ns literals) where
         by_lines (λ l. P (tree_at ns literals l))
         (λ l i ih. subst P (sym (tree_row ns literals g l i.0 i.1)) (by_kind ns literals g l i.0 i.1 (λ (x y : Exp). P x) (tree_rows literals (tree_at ns literals) l (node_at ns l)) (tree_rows literals (tree_at ns literals) l (node_at ns l)) end_of_input end_of_input refl (each l i ih)))
 
-    -- Line 0 reads as line 1, and past the lines stands `end-of-input`.
+    -- Line 0 reads as line 1, and past the lines stands `end_of_input`.
     pub everywhere : P end_of_input → (l : ℕ) → P (tree_at ns literals l)
     everywhere p zero = every_line 1 (omega arith, g.some_line)
     everywhere p (suc l) = go (dec_le (suc l) (line_count ns))
@@ -467,7 +467,7 @@ module _ (ns : List ℤ) (literals : List ℕ) (g : Accepted ns literals) where
           body_still ns literals g (rule_still ns) (rule_still_is ns) l (record { low = w.0; high = w.1; kind_is = k }) ∙ q
 
 -- ── Plain grammars ──
--- The twenty rows of `plain-line`; a and b: the lines named there are not of kind 6.
+-- The twenty rows of `plain_line`; a and b: the lines named there are not of kind 6.
 abbrev plain_rows : (a b : Bool) → List Bool
 plain_rows a b =
     true ∷ true ∷ true ∷ true ∷ true ∷ true ∷ (a && b) ∷ b ∷ true ∷ a ∷ a ∷ a ∷ a ∷ false ∷ false ∷ false ∷ false ∷ false ∷ true ∷ true ∷ []

@@ -109,8 +109,8 @@ module _ (i : Input) (e : refusal i ≡ none) where
 -- ── Any two started runs ──
 module _ (i j : Input) (e : refusal i ≡ none) (d : refusal j ≡ none) where
   -- "If both parsed, their token lists are equal exactly when that reading gives both the same forest"
-  pub same-tokens : (f h : Forest) → Parses (reading i) f → Parses (reading j) h → (token_list (outcome i) ≡ token_list (outcome j)) ↔ (f ≡ h)
-  same-tokens f h p q =
+  pub same_tokens : (f h : Forest) → Parses (reading i) f → Parses (reading j) h → (token_list (outcome i) ≡ token_list (outcome j)) ↔ (f ≡ h)
+  same_tokens f h p q =
       subst (λ (x : List ℕ). (x ≡ token_list (outcome j)) ↔ (f ≡ h)) (sym (list_is i e f p))
       (subst (λ (x : List ℕ). (take (length (tokens f) * 5) (filled (length i.tokens) (numbers (tokens f))) ≡ x) ↔ (f ≡ h)) (sym (list_is j d h q))
       (tokens_area_exact (length i.tokens) (length j.tokens) f h))
@@ -131,7 +131,7 @@ module _ (i j : Input) (e : refusal i ≡ none) (d : refusal j ≡ none) where
       Same = (a.furthest ≡ b.furthest) × SameSet a.positive b.positive × SameSet a.negative b.negative
 
   both : Demand3 i j (outcome i) (outcome j)
-  both = record { first = each i e; second = each j d; same-tokens = same-tokens; same_reports = same_reports }
+  both = record { first = each i e; second = each j d; same_tokens = same_tokens; same_reports = same_reports }
 
   -- Demand 3, of any two values that keep `run`'s promise.
   pub demand_3 : (o p : Outcome) {b₁ a₁ b₂ a₂ : List ℕ} → Ran i o b₁ a₁ → Ran j p b₂ a₂ → Demand3 i j o p

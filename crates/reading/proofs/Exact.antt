@@ -101,9 +101,9 @@ numbers_inj (t ∷ ts) (u ∷ us) e =
 pub take_filled : (n : ℕ) (xs : List ℕ) → take (length xs) (filled n xs) ≡ xs
 take_filled n xs = take_at xs (replicate (n - length xs) 0) (length xs) refl
 
-pub length-numbers : (ts : List Token) → length (numbers ts) ≡ length ts * 5
-length-numbers [] = refl
-length-numbers (t ∷ ts) = omega (arith, length-numbers ts)
+pub length_numbers : (ts : List Token) → length (numbers ts) ≡ length ts * 5
+length_numbers [] = refl
+length_numbers (t ∷ ts) = omega (arith, length_numbers ts)
 
 -- The first `count` tokens of two areas, as numbers.
 pub tokens_area_exact : (m n : ℕ) (f g : Forest)
@@ -111,7 +111,7 @@ pub tokens_area_exact : (m n : ℕ) (f g : Forest)
 tokens_area_exact m n f g = (λ e. tokens_inj 0 f g (numbers_inj (tokens f) (tokens g) (sym (first m f) ∙ e ∙ first n g)), λ (p : f ≡ g). first m f ∙ ap (λ (h : Forest). numbers (tokens h)) p ∙ sym (first n g))
   where
     first : (m : ℕ) (f : Forest) → take (length (tokens f) * 5) (filled m (numbers (tokens f))) ≡ numbers (tokens f)
-    first m f = rw (← length-numbers (tokens f)) (take_filled m (numbers (tokens f)))
+    first m f = rw (← length_numbers (tokens f)) (take_filled m (numbers (tokens f)))
 
 -- ── Report ──
 -- What follows the lists is of no account: the counts say where they end.
@@ -150,9 +150,9 @@ placed x z l = go (ltb x z) refl (eqb x z) refl
         let ne : x ≢ z = eqb-false x z d in
         after (rw (e, d)) (omega (arith, ltb-false x z e))
 
-mem-insert : (x : ℕ) (l : List ℕ) (y : ℕ) → Memᴰ y (insert x l) → (y ≡ x) ⊎ Memᴰ y l
-mem-insert x [] y h = Memᴰ.cases_cons h
-mem-insert x (z ∷ l) y h = go (placed x z l) (λ (m : Memᴰ y (insert x l)). mem-insert x l y m)
+mem_insert : (x : ℕ) (l : List ℕ) (y : ℕ) → Memᴰ y (insert x l) → (y ≡ x) ⊎ Memᴰ y l
+mem_insert x [] y h = Memᴰ.cases_cons h
+mem_insert x (z ∷ l) y h = go (placed x z l) (λ (m : Memᴰ y (insert x l)). mem_insert x l y m)
   where
     deeper : (y ≡ x) ⊎ Memᴰ y l → (y ≡ x) ⊎ Memᴰ y (z ∷ l)
     deeper (inl e) = inl e
@@ -185,7 +185,7 @@ in_insert x (z ∷ l) y h = go (placed x z l) h (λ (m : (y ≡ x) ⊎ Memᴰ y 
     go (after e k) (inr m) ih = rw e (past (Memᴰ.cases_cons m) ih)
 
 above_insert : (z x : ℕ) (l : List ℕ) → z < x → Above z l → Above z (insert x l)
-above_insert z x l k a y h = go (mem-insert x l y h)
+above_insert z x l k a y h = go (mem_insert x l y h)
   where
     go : (y ≡ x) ⊎ Memᴰ y l → z < y
     go (inl e) = omega arith
@@ -213,7 +213,7 @@ ascends (x ∷ l) = asc_insert x (ascending l) (ascends l)
 
 pub same_members : (l : List ℕ) → SameSet (ascending l) l
 same_members [] y = (λ m. m, λ m. m)
-same_members (x ∷ l) y = (λ m. down (mem-insert x (ascending l) y m) (same_members l y).0, λ m. in_insert x (ascending l) y (up (Memᴰ.cases_cons m) (same_members l y).1))
+same_members (x ∷ l) y = (λ m. down (mem_insert x (ascending l) y m) (same_members l y).0, λ m. in_insert x (ascending l) y (up (Memᴰ.cases_cons m) (same_members l y).1))
   where
     down : (y ≡ x) ⊎ Memᴰ y (ascending l) → (Memᴰ y (ascending l) → Memᴰ y l) → Memᴰ y (x ∷ l)
     down (inl e) f = Memᴰ.head e
@@ -256,9 +256,9 @@ pub by_sets : (l m : List ℕ) → SameSet l m → ascending l ≡ ascending m
 by_sets l m s = asc_ext (ascending l) (ascending m) (ascends l) (ascends m)
     (λ y. (λ h. (same_members m y).1 ((s y).0 ((same_members l y).0 h)), λ h. (same_members l y).1 ((s y).1 ((same_members m y).0 h))))
 
-length-insert : (x : ℕ) (l : List ℕ) → length (insert x l) ≤ suc (length l)
-length-insert x [] = omega arith
-length-insert x (z ∷ l) = go (placed x z l) (length-insert x l)
+length_insert : (x : ℕ) (l : List ℕ) → length (insert x l) ≤ suc (length l)
+length_insert x [] = omega arith
+length_insert x (z ∷ l) = go (placed x z l) (length_insert x l)
   where
     go : Placed x z l → length (insert x l) ≤ suc (length l) → length (insert x (z ∷ l)) ≤ suc (suc (length l))
     go (before e k) ih = omega (arith, ap length e)
@@ -268,7 +268,7 @@ length-insert x (z ∷ l) = go (placed x z l) (length-insert x l)
 -- No more rules are reported than were tried.
 pub length_ascending : (l : List ℕ) → length (ascending l) ≤ length l
 length_ascending [] = omega arith
-length_ascending (x ∷ l) = omega (arith, length-insert x (ascending l), length_ascending l)
+length_ascending (x ∷ l) = omega (arith, length_insert x (ascending l), length_ascending l)
 
 -- The first k numbers of an area that is filled with no more than k.
 pub take_padded : (k n : ℕ) (xs : List ℕ) → length xs ≤ k → k ≤ n → take k (filled n xs) ≡ xs ++ replicate (k - length xs) 0
@@ -276,12 +276,12 @@ take_padded k n xs l h =
     let e : length xs + (k - length xs) ≡ k = omega arith in
     ap (λ (m : ℕ). take m (filled n xs)) (sym e)
     ∙ take-append-add xs (replicate (n - length xs) 0) (k - length xs)
-    ∙ ap (λ (z : List ℕ). xs ++ z) (take-replicate (k - length xs) (n - length xs) (omega arith))
+    ∙ ap (λ (z : List ℕ). xs ++ z) (take_replicate (k - length xs) (n - length xs) (omega arith))
   where
-    take-replicate : (k m : ℕ) → k ≤ m → ◌≡◌ {A = List ℕ} (take k (replicate m 0)) (replicate k 0)
-    take-replicate zero m h = refl
-    take-replicate (suc k) zero h = absurd (omega arith)
-    take-replicate (suc k) (suc m) h = ap (λ (z : List ℕ). 0 ∷ z) (take-replicate k m (omega arith))
+    take_replicate : (k m : ℕ) → k ≤ m → ◌≡◌ {A = List ℕ} (take k (replicate m 0)) (replicate k 0)
+    take_replicate zero m h = refl
+    take_replicate (suc k) zero h = absurd (omega arith)
+    take_replicate (suc k) (suc m) h = ap (λ (z : List ℕ). 0 ∷ z) (take_replicate k m (omega arith))
 
 -- Lists as long as a run's may be.
 pub record Few (ps ns : List ℕ) : Type 0 where

@@ -4,7 +4,7 @@ use mathlib.Core.List.{List, [], ◌∷◌, ◌++◌, append_assoc}
 use mathlib.Core.Option.{Option, none, some}
 use Prim.Native.Nat.{ℕ}
 use native.Mathlib.Omega.{arith}
-use Rattle.reading.specs.Ford.{Peg, star, Ford, f_empty, f_terminal, f_terminal_fail, f_terminal_end, f_nonterminal, f_sequence, f_sequence_fail, f_first, f-second, f_more, f_done, f_not_fail, f_not}
+use Rattle.reading.specs.Ford.{Peg, star, Ford, f_empty, f_terminal, f_terminal_fail, f_terminal_end, f_nonterminal, f_sequence, f_sequence_fail, f_first, f_second, f_more, f_done, f_not_fail, f_not}
 
 module _ (rules : ℕ → Peg) where
   apart : {A : Type 0} {y : List ℕ} → Path (Option (List ℕ)) (some y) none → A
@@ -26,9 +26,9 @@ module _ (rules : ℕ → Peg) where
   ford_unique e x o (f_sequence_fail a b x' d) o' (f_sequence a' b' x'' y' o₂ d' f') = apart (sym (ford_unique a x' none d (some y') d'))
   ford_unique e x o (f_sequence_fail a b x' d) o' (f_sequence_fail a' b' x'' d') = refl
   ford_unique e x o (f_first a b x' y d) o' (f_first a' b' x'' y' d') = ford_unique a x' (some y) d (some y') d'
-  ford_unique e x o (f_first a b x' y d) o' (f-second a' b' x'' o₂ d' f') = apart (ford_unique a x' (some y) d none d')
-  ford_unique e x o (f-second a b x' o₁ d f) o' (f_first a' b' x'' y' d') = apart (sym (ford_unique a x' none d (some y') d'))
-  ford_unique e x o (f-second a b x' o₁ d f) o' (f-second a' b' x'' o₂ d' f') = ford_unique b x' o₁ f o₂ f'
+  ford_unique e x o (f_first a b x' y d) o' (f_second a' b' x'' o₂ d' f') = apart (ford_unique a x' (some y) d none d')
+  ford_unique e x o (f_second a b x' o₁ d f) o' (f_first a' b' x'' y' d') = apart (sym (ford_unique a x' none d (some y') d'))
+  ford_unique e x o (f_second a b x' o₁ d f) o' (f_second a' b' x'' o₂ d' f') = ford_unique b x' o₁ f o₂ f'
   ford_unique e x o (f_more a x' y o₁ d f) o' (f_more a' x'' y' o₂ d' f') = ford_unique (star a) y o₁ f o₂ (subst (λ (z : List ℕ). Ford rules (star a) z o₂) (sym (inner (ford_unique a x' (some y) d (some y') d'))) f')
   ford_unique e x o (f_more a x' y o₁ d f) o' (f_done a' x'' d') = apart (ford_unique a x' (some y) d none d')
   ford_unique e x o (f_done a x' d) o' (f_more a' x'' y' o₂ d' f') = apart (sym (ford_unique a x' none d (some y') d'))
@@ -62,7 +62,7 @@ module _ (rules : ℕ → Peg) where
   suffix_of e x o (f_sequence a b x' y o₁ d f) = further x' y (suffix_of a x' (some y) d) o₁ (suffix_of b y o₁ f)
   suffix_of e x o (f_sequence_fail a b x' d) = tt
   suffix_of e x o (f_first a b x' y d) = suffix_of a x' (some y) d
-  suffix_of e x o (f-second a b x' o₁ d f) = suffix_of b x' o₁ f
+  suffix_of e x o (f_second a b x' o₁ d f) = suffix_of b x' o₁ f
   suffix_of e x o (f_more a x' y o₁ d f) = further x' y (suffix_of a x' (some y) d) o₁ (suffix_of (star a) y o₁ f)
   suffix_of e x o (f_done a x' d) = ([], refl)
   suffix_of e x o (f_not_fail a x' y d) = tt

@@ -21,7 +21,7 @@ use Rattle.reading.specs.declared.parser_state.Atomicity.{Atomicity}
 use Rattle.reading.specs.declared.parser_state.Atomicity.TheVariants.{Atomic, CompoundAtomic, NonAtomic}
 use Rattle.reading.specs.declared.parser_state.Cause.{Cause}
 use Rattle.reading.specs.declared.call_limit_tracker.LimitKind.TheVariants as LimitKind
-use Rattle.reading.specs.Ending.{if◌then◌else◌, Ending, Ok, Err, Stop, on-ok, on_err, stop_if, Span, Checkpoint, is_negative, is_none, is_atomic}
+use Rattle.reading.specs.Ending.{if◌then◌else◌, Ending, Ok, Err, Stop, on_ok, on_err, stop_if, Span, Checkpoint, is_negative, is_none, is_atomic}
 use Rattle.reading.specs.Grammar as Grammar
 use Rattle.reading.specs.Grammar.{Exp, RuleLine}
 use Rattle.reading.specs.Reading.{Setting, most_entries, most_debt, most_attempts, most_rounds, debt}
@@ -157,10 +157,10 @@ module _ (g : Setting) where
   or_right true b e = not-true e
   or_right false b e = e
 
-  and_keeps : (a b : Bool) (f h : ParserState → Ending ParserState) → Keeping g a f → Keeping g b h → Keeping g (a && b) (λ m. on-ok (f m) (λ n. h n))
+  and_keeps : (a b : Bool) (f h : ParserState → Ending ParserState) → Keeping g a f → Keeping g b h → Keeping g (a && b) (λ m. on_ok (f m) (λ n. h n))
   and_keeps a b f h kf kh m x = go (f m) (kf m x)
     where
-      go : (r : Ending ParserState) → KeepsFrom g a m r → KeepsFrom g (a && b) m (on-ok r (λ n. h n))
+      go : (r : Ending ParserState) → KeepsFrom g a m r → KeepsFrom g (a && b) m (on_ok r (λ n. h n))
       go r (keeps_ok n y i) = later y (λ e. turn (and-false a b e)) (h n) (kh n y.fit)
         where
           turn : (a ≡ false) ⊎ (b ≡ false) → (m.position < n.position) ⊎ (b ≡ false)
@@ -418,10 +418,10 @@ module _ (g : Setting) where
   landed_keeps m f x lands_not = keeps_err m (stay m f)
   landed_keeps m f x (lands q k e) = keeps_ok (Pest.set_position q m) (record { fit = moved_fit m q f e; on = k; look = refl; atom = refl; level = refl; grown = omega arith }) not-true
 
-  pop_keeps : (line : ℕ) → Keeping g true (λ m. Pest.stack-pop g.text true line m.stack.cache m)
+  pop_keeps : (line : ℕ) → Keeping g true (λ m. Pest.stack_pop g.text true line m.stack.cache m)
   pop_keeps line m f = go m.stack.cache refl
     where
-      go : (c : List Span) → m.stack.cache ≡ c → KeepsFrom g true m (Pest.stack-pop g.text true line c m)
+      go : (c : List Span) → m.stack.cache ≡ c → KeepsFrom g true m (Pest.stack_pop g.text true line c m)
       go [] e = keeps_stop _
       go (x ∷ rest) e = popping_keeps line x rest m e f (λ n. Pest.moved (Pest.match_string g.text (Pest.as_str g.text x) n.position) n)
           (λ w. landed_keeps (Pest.set_stack (Pest.pop x rest m.stack) m) w _ (entry_lands x (subst (Entries g.text) e f.entries).0 m.position f.edge))
@@ -689,8 +689,8 @@ module _ (g : Setting) (set : ℕ → Bool) (w : Tested g set) where
     counted_keeps : (b : Bool) (k : ParserState → Ending ParserState) → Keeping g b k → Keeping g b (λ m. Pest.check_limit room true m k)
     counted_keeps b k z = entering_keeps g room true b k z
 
-    end_keeps : Keeping g true (λ m. if Pest.at-end g.text m.position then Ok m else Err m)
-    end_keeps m x = go (Pest.at-end g.text m.position)
+    end_keeps : Keeping g true (λ m. if Pest.at_end g.text m.position then Ok m else Err m)
+    end_keeps m x = go (Pest.at_end g.text m.position)
       where
         go : (b : Bool) → KeepsFrom g true m (if b then Ok m else Err m)
         go true = keeps_ok m (stay g m x) not-true
@@ -715,7 +715,7 @@ module _ (g : Setting) (set : ℕ → Bool) (w : Tested g set) where
     level_keeps (Grammar.lookahead b e) u y = counted_keeps true (λ m. Pest.lookahead b (d e) m) (lookahead_keeps g b (still set e) (d e) (h e u y))
     level_keeps (Grammar.atomic a e) u y = counted_keeps (still set e) (λ m. Pest.atomic a (d e) m) (atomic_keeps g a (still set e) (d e) (h e u y))
     level_keeps (Grammar.stack_push line e) u y = counted_keeps (still set e) (λ m. Pest.stack_push g.text true line (d e) m) (push_keeps g line (still set e) (d e) (h e u y))
-    level_keeps (Grammar.stack-pop line) u y = pop_keeps g line
+    level_keeps (Grammar.stack_pop line) u y = pop_keeps g line
     level_keeps (Grammar.stack_match_peek_slice i j t) u y = peek_keeps g i j t
     level_keeps (Grammar.stack_match_pop line) u y = λ m x. match_pop_keeps g line m.stack.cache m refl x m.position (omega arith) x.edge
     level_keeps (Grammar.restore_on_err e) u y = entering_keeps g room false (still set e) (λ m. Pest.restore_on_err (d e) m) (restore_keeps g (still set e) (d e) (h e u y))

@@ -55,9 +55,9 @@ still_mono s t h n =
     (natural n.kind - 1)
 
 -- ── Rounds, step by step ──
-true-or : (b : Bool) → true ≡ (b || true)
-true-or true = refl
-true-or false = refl
+true_or : (b : Bool) → true ≡ (b || true)
+true_or true = refl
+true_or false = refl
 
 module _ (ns : List ℤ) (i : ℕ) (f : List Bool) where
   pub raised_flagged : get_or f i false ≡ true → f ≡ raised ns i f
@@ -66,7 +66,7 @@ module _ (ns : List ℤ) (i : ℕ) (f : List Bool) where
 
   pub raised_yes : stands_still (flag f) (node_at ns (suc i)) ≡ true → set f i true ≡ raised ns i f
   unfolding raised
-  raised_yes e = rw e (ap (set f i) (true-or (get_or f i false)))
+  raised_yes e = rw e (ap (set f i) (true_or (get_or f i false)))
 
   pub raised_no : get_or f i false ≡ false → stands_still (flag f) (node_at ns (suc i)) ≡ false → f ≡ raised ns i f
   unfolding raised

@@ -22,7 +22,7 @@ use Rattle.reading.specs.declared.parser_state.Lookahead.{Lookahead}
 use Rattle.reading.specs.declared.parser_state.Atomicity.{Atomicity}
 use Rattle.reading.specs.declared.parser_state.Cause.{Cause}
 use Rattle.reading.specs.declared.call_limit_tracker.LimitKind.{LimitKind}
-use Rattle.reading.specs.Ending.{if◌then◌else◌, Ending, Ok, Err, Stop, on-ok, on_err, stop_if, is_negative, is_none, is_atomic}
+use Rattle.reading.specs.Ending.{if◌then◌else◌, Ending, Ok, Err, Stop, on_ok, on_err, stop_if, is_negative, is_none, is_atomic}
 use Rattle.reading.specs.Grammar as Grammar
 use Rattle.reading.specs.Grammar.{Exp, RuleLine}
 use Rattle.reading.specs.Reading as Reading
@@ -121,8 +121,8 @@ module _ (text : List ℕ) (rules : ℕ → Peg) where
       go o lands_not f ih = Ford.f_sequence_fail _ _ (at p) f
       go o (lands q k d) f ih = Ford.f_sequence _ _ (at p) (at q) _ f (ih q d)
 
-  end_ford : (p : ℕ) → Edge text p → Ford rules (Ford.not any) (at p) (if Pest.at-end text p then some (at p) else none)
-  end_ford p e = go (begins (drop p text) e.whole) (Pest.at-end text p) refl
+  end_ford : (p : ℕ) → Edge text p → Ford rules (Ford.not any) (at p) (if Pest.at_end text p then some (at p) else none)
+  end_ford p e = go (begins (drop p text) e.whole) (Pest.at_end text p) refl
     where
       go : Begins (drop p text) → (b : Bool) → eqb p (length text) ≡ b → Ford rules (Ford.not any) (at p) (if b then some (at p) else none)
       go (no_character n d q) true k = Ford.f_not any (at p) (rw q (Ford.f_terminal_end (λ v. true)))
@@ -158,7 +158,7 @@ module _ (g : Setting) where
 
   -- ── Kinds 6 and 7 ──
   and_means : (a b : Peg) (v w x : Bool) (f h : ParserState → Ending ParserState) → Recognises a v f → Recognises b w h → Keeping g x f
-      → Recognises (Ford.◌then◌ a b) false (λ m. on-ok (f m) (λ n. h n))
+      → Recognises (Ford.◌then◌ a b) false (λ m. on_ok (f m) (λ n. h n))
   and_means a b v w x f h hf hh hk m y = go (f m) (hf m y) (hk m y)
     where
       onward : (n : ParserState) → (cause n ≡ none → (cause m ≡ none) × Ford (rules_of g) a (from m.position) (some (from n.position))) → (r : Ending ParserState) → MeansFrom b w n r
@@ -167,7 +167,7 @@ module _ (g : Setting) where
       onward n k r (means_err t j) = means_err t (λ c. let q : cause n ≡ none = (j c).0 in ((k q).0, Ford.f_sequence a b _ _ none (k q).1 (j c).1, λ (e : false ≡ true). not_so e))
       onward n k r (means_stop c) = means_stop c
 
-      go : (r : Ending ParserState) → MeansFrom a v m r → KeepsFrom g x m r → MeansFrom (Ford.◌then◌ a b) false m (on-ok r (λ n. h n))
+      go : (r : Ending ParserState) → MeansFrom a v m r → KeepsFrom g x m r → MeansFrom (Ford.◌then◌ a b) false m (on_ok r (λ n. h n))
       go r (means_ok n k) (keeps_ok n' z i) = onward n k (h n) (hh n z.fit)
       go r (means_err n k) z = means_err n (λ c. ((k c).0, Ford.f_sequence_fail a b _ (k c).1, λ (e : false ≡ true). not_so e))
       go r (means_stop c) z = means_stop c
@@ -180,10 +180,10 @@ module _ (g : Setting) where
           → MeansFrom (Ford.◌or◌ a b) true m r
       onward n k r (means_ok t j) = means_ok t (λ c.
           let q : cause n ≡ none = (j c).0 in
-          ((k q).0, Ford.f-second a b _ _ (k q).1 (rw ((k q).2 refl) at (j c).1)))
+          ((k q).0, Ford.f_second a b _ _ (k q).1 (rw ((k q).2 refl) at (j c).1)))
       onward n k r (means_err t j) = means_err t (λ c.
           let q : cause n ≡ none = (j c).0 in
-          ((k q).0, Ford.f-second a b _ none (k q).1 (rw ((k q).2 refl) at (j c).1), λ e. (j c).2 e ∙ (k q).2 refl))
+          ((k q).0, Ford.f_second a b _ none (k q).1 (rw ((k q).2 refl) at (j c).1), λ e. (j c).2 e ∙ (k q).2 refl))
       onward n k r (means_stop c) = means_stop c
 
       go : (r : Ending ParserState) → MeansFrom a true m r → KeepsFrom g x m r → MeansFrom (Ford.◌or◌ a b) true m (on_err r (λ n. h n))
@@ -200,8 +200,8 @@ module _ (g : Setting) where
       go none f = means_err m (λ c. (c, f, λ q. refl))
       go (some q) f = means_ok (Pest.set_position q m) (λ c. (c, f))
 
-  end_means : Recognises (Ford.not any) true (λ m. if Pest.at-end g.text m.position then Ok m else Err m)
-  end_means m y = go (Pest.at-end g.text m.position) (end_ford g.text (rules_of g) m.position y.edge)
+  end_means : Recognises (Ford.not any) true (λ m. if Pest.at_end g.text m.position then Ok m else Err m)
+  end_means m y = go (Pest.at_end g.text m.position) (end_ford g.text (rules_of g) m.position y.edge)
     where
       go : (b : Bool) → Ford (rules_of g) (Ford.not any) (from m.position) (if b then some (from m.position) else none) → MeansFrom (Ford.not any) true m (if b then Ok m else Err m)
       go true f = means_ok m (λ c. (c, f))
@@ -287,7 +287,7 @@ module _ (g : Setting) where
     where
       go : (r : Ending ParserState) → MeansFrom e true m r → MeansFrom (Ford.◌or◌ e Ford.ε) true m (Pest.optional r)
       go r (means_ok n k) = means_ok n (λ c. ((k c).0, Ford.f_first e Ford.ε _ _ (k c).1))
-      go r (means_err n k) = forgiven_means n (λ c. ((k c).0, Ford.f-second e Ford.ε _ _ (k c).1 (rw ((k c).2 refl) (Ford.f_empty (from m.position)))))
+      go r (means_err n k) = forgiven_means n (λ c. ((k c).0, Ford.f_second e Ford.ε _ _ (k c).1 (rw ((k c).2 refl) (Ford.f_empty (from m.position)))))
       go r (means_stop c) = means_stop c
 
   -- Each round that is Ok comes nearer to the end, so the fuel is never used up, and a repeat fails only with a cause.
@@ -507,7 +507,7 @@ module _ (g : Setting) (set : ℕ → Bool) (w : Tested g set) (lines : ℕ → 
     level_means (Grammar.lookahead false e) p c u y = counted (Ford.not (peg e)) (λ m. Pest.lookahead false (d e) m) (lookahead_means g false (whole e) (peg e) (d e) (h e p.0 c u y))
     level_means (Grammar.atomic a e) p c u y = counted (peg e) (λ m. Pest.atomic a (d e) m) (atomic_means g a (peg e) (d e) (body e p.0 c p.1 u y))
     level_means (Grammar.stack_push line e) p c u y = absurd p
-    level_means (Grammar.stack-pop line) p c u y = absurd p
+    level_means (Grammar.stack_pop line) p c u y = absurd p
     level_means (Grammar.stack_match_peek_slice i j t) p c u y = absurd p
     level_means (Grammar.stack_match_pop line) p c u y = absurd p
     level_means (Grammar.restore_on_err e) p c u y = absurd p

@@ -17,7 +17,7 @@ use Rattle.matching.proofs.Forward.{Found, found, string_forward, char_forward, 
 use Rattle.matching.proofs.Edges.{Lands, lands_not, lands, string_lands, char_lands, skip_lands, span_whole, eqb_keeps, folded_keeps}
 use Rattle.reading.specs.declared.parser_state.Atomicity.{Atomicity}
 use Rattle.reading.specs.declared.parser_state.Cause.{Cause}
-use Rattle.reading.specs.Ending.{if◌then◌else◌, Ending, Ok, Err, Stop, on-ok, on_err, Span, is_negative, is_none, is_atomic}
+use Rattle.reading.specs.Ending.{if◌then◌else◌, Ending, Ok, Err, Stop, on_ok, on_err, Span, is_negative, is_none, is_atomic}
 use Rattle.reading.specs.Grammar as Grammar
 use Rattle.reading.specs.Grammar.{Exp, RuleLine}
 use Rattle.reading.specs.Reading.{Setting, most_rounds}
@@ -108,10 +108,10 @@ module _ (g : Setting) where
 
   -- ── Kinds 6 and 7 ──
   module _ (a b : Bool) (f f' h h' : ParserState → Ending ParserState) (k : AlikeFrom g a f f') (l : AlikeFrom g b h h') where
-    and_alike : AlikeFrom g (a && b) (λ m. on-ok (f m) (λ n. h n)) (λ m. on-ok (f' m) (λ n. h' n))
+    and_alike : AlikeFrom g (a && b) (λ m. on_ok (f m) (λ n. h n)) (λ m. on_ok (f' m) (λ n. h' n))
     and_alike m x = go (f m) (f' m) (k m x)
       where
-        go : (r s : Ending ParserState) → Alike g a m.position r s → Alike g (a && b) m.position (on-ok r (λ n. h n)) (on-ok s (λ n. h' n))
+        go : (r s : Ending ParserState) → Alike g a m.position r s → Alike g (a && b) m.position (on_ok r (λ n. h n)) (on_ok s (λ n. h' n))
         go r s (alike_ok n y) = later n y (λ e. turn (and-false g a b e)) (h n) (h' n) (l n y.free)
           where
             turn : (a ≡ false) ⊎ (b ≡ false) → (m.position < n.position) ⊎ (b ≡ false)
@@ -139,8 +139,8 @@ module _ (g : Setting) where
   landed_alike m y x lands_not = alike_err m (stay y)
   landed_alike m y x (lands q k e) = alike_ok (Pest.set_position q m) (record { free = record { edge = e; whole = y.whole }; forward = k; moved = not-true })
 
-  end_alike : AlikeFrom g true (λ m. if Pest.at-end g.text m.position then Ok m else Err m) (λ m. if Pest.at-end g.text m.position then Ok m else Err m)
-  end_alike m x = go (Pest.at-end g.text m.position)
+  end_alike : AlikeFrom g true (λ m. if Pest.at_end g.text m.position then Ok m else Err m) (λ m. if Pest.at_end g.text m.position then Ok m else Err m)
+  end_alike m x = go (Pest.at_end g.text m.position)
     where
       go : (b : Bool) → Alike g true m.position (if b then Ok m else Err m) (if b then Ok m else Err m)
       go true = alike_ok m (stay x)
@@ -287,10 +287,10 @@ module _ (g : Setting) where
       let u : Entries g.text (v ∷ rest) = subst (Entries g.text) e x.whole.cache in
       record { edge = x.edge; whole = whole_pop g.text v rest m.stack.popped m.stack.lengths u.0 u.1 x.whole.popped }
 
-  pop_alike : (line : ℕ) → AlikeFrom g true (λ m. Pest.stack-pop g.text false line m.stack.cache m) (λ m. Pest.stack-pop g.text false line m.stack.cache m)
+  pop_alike : (line : ℕ) → AlikeFrom g true (λ m. Pest.stack_pop g.text false line m.stack.cache m) (λ m. Pest.stack_pop g.text false line m.stack.cache m)
   pop_alike line m x = go m.stack.cache refl
     where
-      go : (c : List Span) → m.stack.cache ≡ c → Alike g true m.position (Pest.stack-pop g.text false line c m) (Pest.stack-pop g.text false line c m)
+      go : (c : List Span) → m.stack.cache ≡ c → Alike g true m.position (Pest.stack_pop g.text false line c m) (Pest.stack_pop g.text false line c m)
       go [] e = alike_stop _
       go (v ∷ rest) e = landed_alike (Pest.set_stack (Pest.pop v rest m.stack) m) (popped_free v rest m e x) _ (entry_lands g v (subst (Entries g.text) e x.whole.cache).0 m.position x.edge)
 
@@ -421,7 +421,7 @@ module _ (g : Setting) (set : ℕ → Bool) (w : Tested g set) (spent spent' : P
     level_alike (Grammar.lookahead b e) u y = counted true _ _ (lookahead_alike g b (still set e) (d e) (d' e) (k e u y))
     level_alike (Grammar.atomic a e) u y = counted (still set e) _ _ (atomic_alike g a (still set e) (d e) (d' e) (k e u y))
     level_alike (Grammar.stack_push line e) u y = counted (still set e) _ _ (push_alike g line (still set e) (d e) (d' e) (k e u y))
-    level_alike (Grammar.stack-pop line) u y = pop_alike g line
+    level_alike (Grammar.stack_pop line) u y = pop_alike g line
     level_alike (Grammar.stack_match_peek_slice i j t) u y = peek_alike g i j t
     level_alike (Grammar.stack_match_pop line) u y = λ m x. match_pop_alike g line m.stack.cache m refl x m.position (omega arith) x.edge
     level_alike (Grammar.restore_on_err e) u y = entering_alike g room false (still set e) _ _ (restore_alike g (still set e) (d e) (d' e) (k e u y))

@@ -16,7 +16,7 @@ use Rattle.reading.specs.declared.parser_state.Lookahead.TheVariants.{Positive, 
 use Rattle.reading.specs.declared.parser_state.Atomicity.{Atomicity}
 use Rattle.reading.specs.declared.parser_state.Cause.{Cause}
 use Rattle.reading.specs.declared.call_limit_tracker.LimitKind.{LimitKind}
-use Rattle.reading.specs.Ending.{if◌then◌else◌, Ending, Ok, Err, Stop, on-ok, on_err, stop_if, Span, is_negative, is_none, is_atomic}
+use Rattle.reading.specs.Ending.{if◌then◌else◌, Ending, Ok, Err, Stop, on_ok, on_err, stop_if, Span, is_negative, is_none, is_atomic}
 use Rattle.reading.specs.Grammar as Grammar
 use Rattle.reading.specs.Grammar.{Exp, RuleLine}
 use Rattle.reading.specs.Forest.{Forest, empty, add, count, size, cut, tag_last}
@@ -104,10 +104,10 @@ module _ (g : Setting) where
 
   -- ── Kinds 6 and 7 ──
   and_sim : {b : Bool} (r₁ r₂ : State → Ending State) (m₁ m₂ : ParserState → Ending ParserState) → Preserves r₁ m₁ → Preserves r₂ m₂ → Keeping g b m₁
-      → Preserves (λ s. on-ok (r₁ s) (λ t. r₂ t)) (λ m. on-ok (m₁ m) (λ n. m₂ n))
+      → Preserves (λ s. on_ok (r₁ s) (λ t. r₂ t)) (λ m. on_ok (m₁ m) (λ n. m₂ n))
   and_sim {b} r₁ r₂ m₁ m₂ h₁ h₂ k₁ o ss p s i v = go (r₁ s) (m₁ (pest_of o p s)) (h₁ o ss p s i v) (k₁ (pest_of o p s) v)
     where
-      go : (r : Ending State) (m : Ending ParserState) → SimFrom o ss s r m → KeepsFrom g b (pest_of o p s) m → SimFrom o ss s (on-ok r (λ t. r₂ t)) (on-ok m (λ n. m₂ n))
+      go : (r : Ending State) (m : Ending ParserState) → SimFrom o ss s r m → KeepsFrom g b (pest_of o p s) m → SimFrom o ss s (on_ok r (λ t. r₂ t)) (on_ok m (λ n. m₂ n))
       go r m (sim_ok t q j k) (keeps_ok n w d) = from_earlier k (r₂ t) (m₂ (pest_of o q t)) (h₂ o ss q t j w.fit)
       go r m (sim_err t q j k) w = sim_err t q j k
       go r m (sim_stop c) w = sim_stop c
@@ -131,7 +131,7 @@ module _ (g : Setting) where
       → Preserves (λ s. Reading.moved (q s.position) s) (λ m. Pest.moved (mq m.position) m)
   moved_sim q mq e o ss p s i v = rw (← e (pest_of o p s) v) (moved_both (q s.position) o ss p s i)
 
-  end_sim : Preserves (λ s. if Position.at-end g.text s.position then Ok s else Err s) (λ m. if Pest.at-end g.text m.position then Ok m else Err m)
+  end_sim : Preserves (λ s. if Position.at_end g.text s.position then Ok s else Err s) (λ m. if Pest.at_end g.text m.position then Ok m else Err m)
   end_sim o ss p s i v = go (eqb s.position (length g.text))
     where
       go : (b : Bool) → SimFrom o ss s (if b then Ok s else Err s) (if b then Ok (pest_of o p s) else Err (pest_of o p s))
@@ -323,10 +323,10 @@ module _ (g : Setting) where
       subst (λ (v : Pest.Stack). SimFrom o ss s (Reading.popping g.text line rest s k) (stop_if (ltb most_debt (debt v.lengths)) (Cause.StackFull line) (λ _. mk (Pest.set_stack v (pest_of o p s))))) (sym c.same)
       (both_stop g (Cause.StackFull line) _ _ (ltb most_debt (debt (Reading.lower_to (length rest) s.checkpoints))) (h c.left (record { base = i.base; inv = c.inv })))
 
-  pop_sim : (line : ℕ) → Preserves g (λ s. Reading.popped g.text line s.stack s) (λ m. Pest.stack-pop g.text true line m.stack.cache m)
+  pop_sim : (line : ℕ) → Preserves g (λ s. Reading.popped g.text line s.stack s) (λ m. Pest.stack_pop g.text true line m.stack.cache m)
   pop_sim line o ss p s i v = go s.stack refl
     where
-      go : (c : Stk) → s.stack ≡ c → SimFrom o ss s (Reading.popped g.text line c s) (Pest.stack-pop g.text true line c (pest_of o p s))
+      go : (c : Stk) → s.stack ≡ c → SimFrom o ss s (Reading.popped g.text line c s) (Pest.stack_pop g.text true line c (pest_of o p s))
       go [] e = sim_stop _
       go (x ∷ rest) e = popping_sim line x rest
           (λ t. Reading.moved (Reading.after_entry g.text x t.position) t)
@@ -612,7 +612,7 @@ module _ (g : Setting) (set : ℕ → Bool) (w : Tested g set) where
     level_sim (Grammar.lookahead b e) u y = counted _ (λ x. Pest.lookahead b (md e) x) (lookahead_sim g b (d e) (md e) (h e u y))
     level_sim (Grammar.atomic a e) u y = counted _ (λ x. Pest.atomic a (md e) x) (atomic_sim g a (d e) (md e) (h e u y))
     level_sim (Grammar.stack_push line e) u y = counted _ (λ x. Pest.stack_push g.text true line (md e) x) (push_sim g line (d e) (md e) (h e u y))
-    level_sim (Grammar.stack-pop line) u y = pop_sim g line
+    level_sim (Grammar.stack_pop line) u y = pop_sim g line
     level_sim (Grammar.stack_match_peek_slice i j t) u y = peek_sim g i j t
     level_sim (Grammar.stack_match_pop line) u y = λ o ss p s i v. match_pop_sim g line s.stack s.position o ss p s i refl
     level_sim (Grammar.restore_on_err e) u y = entering_sim g room false _ (λ x. Pest.restore_on_err (md e) x) (restore_sim g (d e) (md e) (h e u y))

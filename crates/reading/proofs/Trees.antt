@@ -6,7 +6,7 @@ use Prim.Native.Nat.{ℕ}
 use lib.ListN.{length}
 use lib.Dec.{eqb}
 use Rattle.matching.specs.Utf8.{Utf8}
-use Rattle.reading.specs.Grammar.{Exp, match_string, match_insensitive, match_range, skip, end_of_input, and_then, or_else, rule, sequence, repeat, optional, lookahead, atomic, stack_push, stack-pop, stack_match_peek_slice, stack_match_pop, restore_on_err, tag_node, call}
+use Rattle.reading.specs.Grammar.{Exp, match_string, match_insensitive, match_range, skip, end_of_input, and_then, or_else, rule, sequence, repeat, optional, lookahead, atomic, stack_push, stack_pop, stack_match_peek_slice, stack_match_pop, restore_on_err, tag_node, call}
 
 -- May the tree end in Ok and stand still; `set` says it of called lines.
 abbrev pub still : (set : ℕ → Bool) → Exp → Bool
@@ -24,7 +24,7 @@ still set (optional e) = true
 still set (lookahead p e) = true
 still set (atomic a e) = still set e
 still set (stack_push l e) = still set e
-still set (stack-pop l) = true
+still set (stack_pop l) = true
 still set (stack_match_peek_slice i j d) = true
 still set (stack_match_pop l) = true
 still set (restore_on_err e) = still set e
@@ -47,7 +47,7 @@ Steady set (optional e) = Steady set e
 Steady set (lookahead p e) = Steady set e
 Steady set (atomic a e) = Steady set e
 Steady set (stack_push l e) = Steady set e
-Steady set (stack-pop l) = Unit {0}
+Steady set (stack_pop l) = Unit {0}
 Steady set (stack_match_peek_slice i j d) = Unit {0}
 Steady set (stack_match_pop l) = Unit {0}
 Steady set (restore_on_err e) = Steady set e
@@ -70,7 +70,7 @@ Literals (optional e) = Literals e
 Literals (lookahead p e) = Literals e
 Literals (atomic a e) = Literals e
 Literals (stack_push l e) = Literals e
-Literals (stack-pop l) = Unit {0}
+Literals (stack_pop l) = Unit {0}
 Literals (stack_match_peek_slice i j d) = Unit {0}
 Literals (stack_match_pop l) = Unit {0}
 Literals (restore_on_err e) = Literals e
@@ -93,7 +93,7 @@ Calls lines (optional e) = Calls lines e
 Calls lines (lookahead p e) = Calls lines e
 Calls lines (atomic a e) = Calls lines e
 Calls lines (stack_push l e) = Calls lines e
-Calls lines (stack-pop l) = Unit {0}
+Calls lines (stack_pop l) = Unit {0}
 Calls lines (stack_match_peek_slice i j d) = Unit {0}
 Calls lines (stack_match_pop l) = Unit {0}
 Calls lines (restore_on_err e) = Calls lines e
@@ -116,7 +116,7 @@ whole (optional e) = true
 whole (lookahead p e) = true
 whole (atomic a e) = true
 whole (stack_push l e) = true
-whole (stack-pop l) = true
+whole (stack_pop l) = true
 whole (stack_match_peek_slice i j d) = true
 whole (stack_match_pop l) = true
 whole (restore_on_err e) = true
@@ -139,7 +139,7 @@ Plain (optional e) = Plain e × (whole e ≡ true)
 Plain (lookahead p e) = Plain e × (whole e ≡ true)
 Plain (atomic a e) = Plain e × (whole e ≡ true)
 Plain (stack_push l e) = ⊥
-Plain (stack-pop l) = ⊥
+Plain (stack_pop l) = ⊥
 Plain (stack_match_peek_slice i j d) = ⊥
 Plain (stack_match_pop l) = ⊥
 Plain (restore_on_err e) = ⊥

@@ -8,7 +8,7 @@ use Prim.Native.Nat.{ℕ, zero, suc}
 use lib.ListN.{length, take, set, get_or}
 use lib.Dec.{eqb, ltb, leb}
 use Rattle.reading.specs.declared.parser_state.Cause.{Cause}
-use Rattle.reading.specs.Ending.{if◌then◌else◌, Ending, Ok, Err, Stop, on-ok, on_err, stop_if, Span, is_negative, is_atomic}
+use Rattle.reading.specs.Ending.{if◌then◌else◌, Ending, Ok, Err, Stop, on_ok, on_err, stop_if, Span, is_negative, is_atomic}
 use Rattle.reading.specs.Grammar as Grammar
 use Rattle.reading.specs.Grammar.{Exp, RuleLine}
 use Rattle.reading.specs.Reading.{Setting, most_entries, most_debt, most_attempts, most_rounds, debt}
@@ -36,11 +36,11 @@ unless_full : (b : Bool) (c : Cause) (x y : Ending ParserState) → Freed x y �
 unless_full true c x y h = freed_stop c y
 unless_full false c x y h = h
 
-then_ok : (f h : ParserState → Ending ParserState) → Frees f h → (x y : Ending ParserState) → Freed x y → Freed (on-ok x (λ n. f n)) (on-ok y (λ n. h n))
+then_ok : (f h : ParserState → Ending ParserState) → Frees f h → (x y : Ending ParserState) → Freed x y → Freed (on_ok x (λ n. f n)) (on_ok y (λ n. h n))
 then_ok f h k x y (freed (Ok m)) = k m
 then_ok f h k x y (freed (Err m)) = freed (Err m)
 then_ok f h k x y (freed (Stop c)) = freed (Stop c)
-then_ok f h k x y (freed_stop c z) = freed_stop c (on-ok z (λ n. h n))
+then_ok f h k x y (freed_stop c z) = freed_stop c (on_ok z (λ n. h n))
 
 then_err : (f h : ParserState → Ending ParserState) → Frees f h → (x y : Ending ParserState) → Freed x y → Freed (on_err x (λ n. f n)) (on_err y (λ n. h n))
 then_err f h k x y (freed (Ok m)) = freed (Ok m)
@@ -132,7 +132,7 @@ module _ (g : Setting) where
   popping_frees : (line : ℕ) (x : Span) (rest : List Span) (m : ParserState) (f h : ParserState → Ending ParserState) → Frees f h → Freed (Pest.popping g.text true line x rest m f) (Pest.popping g.text false line x rest m h)
   popping_frees line x rest m f h k = unless_full (ltb most_debt (debt (Pest.pop x rest m.stack).lengths)) (Cause.StackFull line) _ _ (k (Pest.set_stack (Pest.pop x rest m.stack) m))
 
-  pop_frees : (line : ℕ) (c : List Span) → Frees (λ m. Pest.stack-pop g.text true line c m) (λ m. Pest.stack-pop g.text false line c m)
+  pop_frees : (line : ℕ) (c : List Span) → Frees (λ m. Pest.stack_pop g.text true line c m) (λ m. Pest.stack_pop g.text false line c m)
   pop_frees line [] m = freed _
   pop_frees line (x ∷ rest) m = popping_frees line x rest m after_pop after_pop (λ n. freed (after_pop n))
     where
@@ -171,7 +171,7 @@ module _ (g : Setting) where
     level_frees (Grammar.lookahead b x) m = counted _ _ (λ n. after (Pest.lookahead_end b n.lookahead n.position) (record { stops = λ c. refl }) _ _ (k x (Pest.checkpoint (Pest.set_lookahead (Pest.lookahead_in b n.lookahead) n)))) m
     level_frees (Grammar.atomic a x) m = counted _ _ (λ n. after (Pest.atomic_end (not (Pest.same_atomicity n.atomicity a)) n.atomicity) (record { stops = λ c. refl }) _ _ (k x (Pest.toggle (not (Pest.same_atomicity n.atomicity a)) a n))) m
     level_frees (Grammar.stack_push line x) m = counted _ _ (λ n. push_end_frees line n.position _ _ (k x n)) m
-    level_frees (Grammar.stack-pop line) m = pop_frees line m.stack.cache m
+    level_frees (Grammar.stack_pop line) m = pop_frees line m.stack.cache m
     level_frees (Grammar.stack_match_peek_slice i j t) m = freed _
     level_frees (Grammar.stack_match_pop line) m = match_pop_frees line m.stack.cache m.position m
     level_frees (Grammar.restore_on_err x) m = entering_frees room false _ _ (λ n. after Pest.restore_on_err_end (record { stops = λ c. refl }) _ _ (k x (Pest.checkpoint n))) m

@@ -40,7 +40,7 @@ pub record Demand3 (i j : Input) (o p : Outcome) : Type 0 where
   pub first : Each i o
   pub second : Each j p
   -- "If both parsed, their token lists are equal exactly when that reading gives both the same forest"
-  pub same-tokens : (f h : Forest) → Parses (reading i) f → Parses (reading j) h → (token_list o ≡ token_list p) ↔ (f ≡ h)
+  pub same_tokens : (f h : Forest) → Parses (reading i) f → Parses (reading j) h → (token_list o ≡ token_list p) ↔ (f ≡ h)
   -- "If both failed to match, their error reports are equal exactly when that reading gives both the same furthest position, the same
   -- set of positive rules and the same set of negative rules."
   pub same_reports : (a b : Attempts) → Fails (reading i) a → Fails (reading j) b

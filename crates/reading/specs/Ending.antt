@@ -20,10 +20,10 @@ pub data Ending (S : Type 0) : Type 0 where
 
 module _ {S : Type 0} where
   -- "Kind 6 evaluates b on a's Ok, 7 on a's Err, from what a left."
-  abbrev pub on-ok : Ending S → (S → Ending S) → Ending S
-  on-ok (Ok s) k = k s
-  on-ok (Err s) k = Err s
-  on-ok (Stop c) k = Stop c
+  abbrev pub on_ok : Ending S → (S → Ending S) → Ending S
+  on_ok (Ok s) k = k s
+  on_ok (Err s) k = Err s
+  on_ok (Stop c) k = Stop c
 
   abbrev pub on_err : Ending S → (S → Ending S) → Ending S
   on_err (Ok s) k = Ok s

@@ -1,4 +1,4 @@
--- What holds of every state of a run (the law `eval-keeps` of proofs/): what the evaluation's functions ask of the state.
+-- What holds of every state of a run (the law `eval_keeps` of proofs/): what the evaluation's functions ask of the state.
 use Rattle.std.specs.Prelude.{List, [], ◌∷◌, ℕ, ◌≤◌, length}
 use Rattle.matching.specs.Utf8.{Utf8, Edge}
 use Rattle.reading.specs.Ending.{Span}

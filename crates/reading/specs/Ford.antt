@@ -5,7 +5,7 @@ use Rattle.std.proofs.Math.Option.{Option, none, some}
 use Rattle.matching.specs.Utf8.{within, characters}
 use Rattle.matching.specs.Position.{same_folded}
 use Rattle.reading.specs.Reading.{Setting}
-use Rattle.reading.specs.Grammar.{Exp, match_string, match_insensitive, match_range, skip, end_of_input, and_then, or_else, rule, sequence, repeat, optional, lookahead, atomic, stack_push, stack-pop, stack_match_peek_slice, stack_match_pop, restore_on_err, tag_node, call}
+use Rattle.reading.specs.Grammar.{Exp, match_string, match_insensitive, match_range, skip, end_of_input, and_then, or_else, rule, sequence, repeat, optional, lookahead, atomic, stack_push, stack_pop, stack_match_peek_slice, stack_match_pop, restore_on_err, tag_node, call}
 
 infixr 30 ◌then◌
 infixr 20 ◌or◌
@@ -34,7 +34,7 @@ pub data Ford (rules : ℕ → Peg) : Peg → List ℕ → Option (List ℕ) →
   f_sequence_fail : (e d : Peg) (x : List ℕ) → Ford rules e x none → Ford rules (e then d) x none
   -- 8. Alternation (case 1), 9. Alternation (case 2)
   f_first : (e d : Peg) (x y : List ℕ) → Ford rules e x (some y) → Ford rules (e or d) x (some y)
-  f-second : (e d : Peg) (x : List ℕ) (o : Option (List ℕ)) → Ford rules e x none → Ford rules d x o → Ford rules (e or d) x o
+  f_second : (e d : Peg) (x : List ℕ) (o : Option (List ℕ)) → Ford rules e x none → Ford rules d x o → Ford rules (e or d) x o
   -- 10. Zero-or-more repetitions (repetition case), 11. (termination case)
   f_more : (e : Peg) (x y : List ℕ) (o : Option (List ℕ)) → Ford rules e x (some y) → Ford rules (star e) y o → Ford rules (star e) x o
   f_done : (e : Peg) (x : List ℕ) → Ford rules e x none → Ford rules (star e) x (some x)
@@ -83,7 +83,7 @@ peg (tag_node u) = ε
 peg (call l) = nonterminal l
 -- No plain grammar has these.
 peg (stack_push l e) = ε
-peg (stack-pop l) = ε
+peg (stack_pop l) = ε
 peg (stack_match_peek_slice i j d) = ε
 peg (stack_match_pop l) = ε
 peg (restore_on_err e) = ε

@@ -135,7 +135,7 @@ pub data Exp : Type 0 where
   lookahead : (positive : Bool) → Exp → Exp
   atomic : Atomicity → Exp → Exp
   stack_push : (line : ℕ) → Exp → Exp
-  stack-pop : (line : ℕ) → Exp
+  stack_pop : (line : ℕ) → Exp
   stack_match_peek_slice : (start : ℤ) → (end : Option ℤ) → (top_down : Bool) → Exp
   stack_match_pop : (line : ℕ) → Exp
   restore_on_err : Exp → Exp
@@ -176,7 +176,7 @@ tree_of literals below line n =
     ∷ lookahead (eqb b 1) (lower a)
     ∷ atomic (atomicity_of b) (lower a)
     ∷ stack_push line (lower a)
-    ∷ stack-pop line
+    ∷ stack_pop line
     ∷ peek_slice n
     ∷ stack_match_pop line
     ∷ restore_on_err (lower a)

@@ -25,7 +25,7 @@ module _ (ns : List ℤ) where
     pub closed : Closed still
     pub least : (other : ℕ → Bool) → Closed other → (l : ℕ) → still l ≡ true → other l ≡ true
 
--- ── The set, computed: as many rounds as there are lines, each over all lines (the law `nullable-least` of proofs/) ──
+-- ── The set, computed: as many rounds as there are lines, each over all lines (the law `nullable_least` of proofs/) ──
 -- Flags, one for each line.
 abbrev pub flag : List Bool → (line : ℕ) → Bool
 flag f zero = false

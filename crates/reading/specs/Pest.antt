@@ -5,9 +5,9 @@
 --
 -- The reading and pest's side share these definitions, so no law between the two can see a mistake in them, only rust/'s comparison
 -- with pest can. Of matching: `decode` and `within` (a character, and whether it is in a range), `past` (the step over one),
--- `same-folded`, `bytes_of`. Of Grammar: which tree a line stands for, and `rule-at`. Of Ending: `on-ok` and `on-err` (kinds 6 and 7),
--- `is_none`, `is_negative`, `is-atomic`. Of Reading: `is_set`. Shared too, but no part of pest: the stops (`stop-if`, `debt`, the bounds)
--- and the number of rounds that a loop is given (`most-rounds`; see `loop`).
+-- `same_folded`, `bytes_of`. Of Grammar: which tree a line stands for, and `rule_at`. Of Ending: `on_ok` and `on_err` (kinds 6 and 7),
+-- `is_none`, `is_negative`, `is_atomic`. Of Reading: `is_set`. Shared too, but no part of pest: the stops (`stop_if`, `debt`, the bounds)
+-- and the number of rounds that a loop is given (`most_rounds`; see `loop`).
 use Rattle.std.specs.Prelude.{Bool, true, false, ◌&&◌, ◌||◌, not, List, [], ◌∷◌, ◌++◌, reverse, ℕ, zero, suc, ◌+◌, ◌-◌, min, ℤ, pos, negsuc, ◌+ℤ◌, length, get_or, take, drop, set, eqb, ltb, leb}
 use Rattle.std.proofs.Math.Option.{Option, none, some}
 use Rattle.std.specs.Int.Signed.{lt_z, non_neg}
@@ -19,7 +19,7 @@ use Rattle.reading.specs.declared.parser_state.Atomicity.{Atomicity}
 use Rattle.reading.specs.declared.parser_state.Atomicity.TheVariants.{Atomic, CompoundAtomic, NonAtomic}
 use Rattle.reading.specs.declared.parser_state.Cause.TheVariants.{EmptyStack, TokensFull, StackFull, AttemptsFull}
 use Rattle.reading.specs.declared.call_limit_tracker.LimitKind.{LimitKind}
-use Rattle.reading.specs.Ending.{if◌then◌else◌, Ending, Ok, Err, Stop, on-ok, on_err, stop_if, Span, Checkpoint, is_negative, is_none, is_atomic}
+use Rattle.reading.specs.Ending.{if◌then◌else◌, Ending, Ok, Err, Stop, on_ok, on_err, stop_if, Span, Checkpoint, is_negative, is_none, is_atomic}
 use Rattle.reading.specs.Grammar as Grammar
 use Rattle.reading.specs.Grammar.{Exp, RuleLine}
 use Rattle.reading.specs.Reading.{Setting, most_entries, most_debt, most_attempts, most_rounds, debt, is_set}
@@ -291,8 +291,8 @@ round_end (Stop c) again = Stop c
 
 -- `loop`. A definition has to end, so the rounds are numbered, and `spent` is what a loop answers whose rounds are used up. In an
 -- accepted grammar they never are: a run's `ending` is the same for every `spent`, also if that is a stop like no other (`Demand2`, by the
--- law `ending-alike` of proofs/Rounds); and the rounds are those of a loop with no bound, `Loops` of Ending (the law
--- `pest-repeat-is-loop` of proofs/Loop).
+-- law `ending_alike` of proofs/Rounds); and the rounds are those of a loop with no bound, `Loops` of Ending (the law
+-- `pest_repeat_is_loop` of proofs/Loop).
 abbrev pub loop : (spent : ParserState → Ending ParserState) → (fuel : ℕ) → (ParserState → Ending ParserState)
     → ParserState → Ending ParserState
 loop spent zero f m = spent m
@@ -398,8 +398,8 @@ module _ (input : List ℕ) where
   abbrev pub skip : ℕ → ℕ → Option ℕ
   skip n p = advance p (skipped n (drop p input) 0)
 
-  abbrev pub at-end : ℕ → Bool
-  at-end p = eqb p (length input)
+  abbrev pub at_end : ℕ → Bool
+  at_end p = eqb p (length input)
 
   -- `as_str` of an entry's span
   abbrev pub as_str : Span → List ℕ
@@ -465,9 +465,9 @@ module _ (input : List ℕ) where
         stop_if (bounded && ltb most_debt (debt v.lengths)) (StackFull line) (λ _. k (set_stack v m))
 
     -- `expect("pop was called on empty stack")` is a stop
-    abbrev pub stack-pop : (line : ℕ) → List Span → ParserState → Ending ParserState
-    stack-pop line [] m = Stop (EmptyStack line)
-    stack-pop line (x ∷ rest) m = popping line x rest m (λ n. moved (match_string input (as_str input x) n.position) n)
+    abbrev pub stack_pop : (line : ℕ) → List Span → ParserState → Ending ParserState
+    stack_pop line [] m = Stop (EmptyStack line)
+    stack_pop line (x ∷ rest) m = popping line x rest m (λ n. moved (match_string input (as_str input x) n.position) n)
 
     -- `while let Some(span) = self.stack.pop()`
     abbrev pub stack_match_pop : (line : ℕ) → List Span → (position : ℕ) → ParserState → Ending ParserState
@@ -493,8 +493,8 @@ module _ (g : Setting) (bounded : Bool) where
       level_with (Grammar.match_insensitive l) m = moved (match_insensitive g.text l m.position) m
       level_with (Grammar.match_range a b) m = moved (match_range g.text a b m.position) m
       level_with (Grammar.skip n) m = moved (skip g.text n m.position) m
-      level_with Grammar.end_of_input m = if at-end g.text m.position then Ok m else Err m
-      level_with (Grammar.and_then a b) m = on-ok (level_with a m) (λ n. level_with b n)
+      level_with Grammar.end_of_input m = if at_end g.text m.position then Ok m else Err m
+      level_with (Grammar.and_then a b) m = on_ok (level_with a m) (λ n. level_with b n)
       level_with (Grammar.or_else a b) m = on_err (level_with a m) (λ n. level_with b n)
       level_with (Grammar.rule line r e) m = at_rule (record { line = line; rule = r; body = e }) m
       level_with (Grammar.sequence e) m = inc_call_check_limit m (λ n. sequence (deeper e) n)
@@ -503,7 +503,7 @@ module _ (g : Setting) (bounded : Bool) where
       level_with (Grammar.lookahead b e) m = inc_call_check_limit m (λ n. lookahead b (deeper e) n)
       level_with (Grammar.atomic a e) m = inc_call_check_limit m (λ n. atomic a (deeper e) n)
       level_with (Grammar.stack_push line e) m = inc_call_check_limit m (λ n. stack_push g.text bounded line (deeper e) n)
-      level_with (Grammar.stack-pop line) m = stack-pop g.text bounded line m.stack.cache m
+      level_with (Grammar.stack_pop line) m = stack_pop g.text bounded line m.stack.cache m
       level_with (Grammar.stack_match_peek_slice i j d) m = stack_match_peek_slice g.text i j d m
       level_with (Grammar.stack_match_pop line) m = stack_match_pop g.text bounded line m.stack.cache m.position m
       level_with (Grammar.restore_on_err e) m = check_stack_limit m (λ n. restore_on_err (deeper e) n)

@@ -10,8 +10,8 @@ use Rattle.reading.specs.declared.parser_state.Atomicity.TheVariants.{NonAtomic}
 use Rattle.reading.specs.declared.parser_state.Cause.TheVariants.{EmptyStack, TokensFull, StackFull, AttemptsFull}
 use Rattle.reading.specs.declared.call_limit_tracker.LimitKind.{LimitKind}
 use Rattle.reading.specs.declared.call_limit_tracker.LimitKind.TheVariants.{Call, Stack}
-use Rattle.reading.specs.Ending.{if◌then◌else◌, Ending, Ok, Err, Stop, on-ok, on_err, stop_if, Span, Checkpoint, is_negative, is_none, is_atomic}
-use Rattle.reading.specs.Grammar.{Exp, match_string, match_insensitive, match_range, skip, end_of_input, and_then, or_else, rule, sequence, repeat, optional, lookahead, atomic, stack_push, stack-pop, stack_match_peek_slice, stack_match_pop, restore_on_err, tag_node, call, RuleLine}
+use Rattle.reading.specs.Ending.{if◌then◌else◌, Ending, Ok, Err, Stop, on_ok, on_err, stop_if, Span, Checkpoint, is_negative, is_none, is_atomic}
+use Rattle.reading.specs.Grammar.{Exp, match_string, match_insensitive, match_range, skip, end_of_input, and_then, or_else, rule, sequence, repeat, optional, lookahead, atomic, stack_push, stack_pop, stack_match_peek_slice, stack_match_pop, restore_on_err, tag_node, call, RuleLine}
 use Rattle.reading.specs.Forest.{Forest, empty, add, count, size, cut, tag_last}
 
 -- What stays the same through a run: the text, the rules by their lines, and how many tokens there is room for.
@@ -260,7 +260,7 @@ round_end (Ok t) again = again t
 round_end (Err t) again = if limited t then Err t else Ok t
 round_end (Stop c) again = Stop c
 
--- A definition has to end, so `fuel` bounds the rounds. In an accepted grammar it is never used up: the law `repeat-is-loop` of
+-- A definition has to end, so `fuel` bounds the rounds. In an accepted grammar it is never used up: the law `repeat_is_loop` of
 -- proofs/Loop says that the rounds are those of a loop with no bound, `Loops` of Ending.
 abbrev pub rounds : (fuel : ℕ) → (State → Ending State) → State → Ending State
 rounds zero body s = Err s
@@ -395,8 +395,8 @@ module _ (g : Setting) where
     level (match_insensitive l) s = moved (Position.match_insensitive g.text l s.position) s
     level (match_range a b) s = moved (Position.match_range g.text a b s.position) s
     level (skip n) s = moved (Position.skip g.text n s.position) s
-    level end_of_input s = if Position.at-end g.text s.position then Ok s else Err s
-    level (and_then a b) s = on-ok (level a s) (λ t. level b t)
+    level end_of_input s = if Position.at_end g.text s.position then Ok s else Err s
+    level (and_then a b) s = on_ok (level a s) (λ t. level b t)
     level (or_else a b) s = on_err (level a s) (λ t. level b t)
     level (rule line r e) s = at_rule (record { line = line; rule = r; body = e }) s
     level (sequence e) s = counted s (λ t. sequence_end t (deeper e (open_checkpoint t)))
@@ -405,7 +405,7 @@ module _ (g : Setting) where
     level (lookahead b e) s = counted s (λ t. lookahead_end b t (deeper e (open_checkpoint (with_lookahead (lookahead_in b t.lookahead) t))))
     level (atomic a e) s = counted s (λ t. atomic_end t (deeper e (with_atomicity a t)))
     level (stack_push line e) s = counted s (λ t. push_end line t (deeper e t))
-    level (stack-pop line) s = popped g.text line s.stack s
+    level (stack_pop line) s = popped g.text line s.stack s
     level (stack_match_peek_slice i j d) s = peeked g.text i j d s
     level (stack_match_pop line) s = match_popped g.text line s.stack s.position s
     level (restore_on_err e) s = uncounted s (λ t. restore_end t (deeper e (open_checkpoint t)))

@@ -118,9 +118,9 @@ module _ (f : List ℕ) (at : ℕ) where
 
 -- the whole field, from where the spaces end
 module _ (f : List ℕ) (at : ℕ) (e : drop at f ≡ behind_spaces f) where
-  pub field-none : at ≡ length f → field f ≡ none
+  pub field_none : at ≡ length f → field f ≡ none
   unfolding field
-  field-none z =
+  field_none z =
       let g : behind_spaces f ≡ [] = sym e ∙ rw z (drop-length f) in
       rw g
 

@@ -96,8 +96,8 @@ module _ (from to i : ℕ) (before area : List ℕ) (s : Blank from to i before 
   pub blank_length : length area ≡ length before
   blank_length = rw s.wrote (length-sets before i (replicate (to - i) 32))
 
-  pub blank-more : from < i → Blank from to (i - 1) before (set area (i - 1) 32)
-  blank-more h =
+  pub blank_more : from < i → Blank from to (i - 1) before (set area (i - 1) 32)
+  blank_more h =
       let e : to - (i - 1) ≡ suc (to - i) = omega (arith, s.high) in
       record { low = omega arith; high = omega (arith, s.high); wrote = rw (s.wrote, e) (sets_before (replicate (to - i) 32) before i 32 (omega arith)) }
 
@@ -132,11 +132,11 @@ unfolding fields
 fields_one n = append-nil (six n)
 
 module _ (ns : List ℕ) (i : ℕ) (h : i < length ns) where
-  pub fields-more : fields (take (i + 1) ns) ≡ fields (take i ns) ++ six (get_or ns i 0)
-  fields-more = rw (add-one i, take-suc ns i 0 h, fields_append (take i ns) (get_or ns i 0 ∷ []), fields_one (get_or ns i 0))
+  pub fields_more : fields (take (i + 1) ns) ≡ fields (take i ns) ++ six (get_or ns i 0)
+  fields_more = rw (add-one i, take-suc ns i 0 h, fields_append (take i ns) (get_or ns i 0 ∷ []), fields_one (get_or ns i 0))
 
   pub fields_size : length (fields (take (i + 1) ns)) ≡ length (fields (take i ns)) + length (six (get_or ns i 0))
-  fields_size = rw fields-more (length-append (fields (take i ns)) (six (get_or ns i 0)))
+  fields_size = rw fields_more (length-append (fields (take i ns)) (six (get_or ns i 0)))
 
 pub fields_part : (ns : List ℕ) (i : ℕ) → length (fields (take i ns)) ≤ length (fields ns)
 fields_part ns i =
@@ -196,7 +196,7 @@ module _ (ns before area : List ℕ) (at i : ℕ) (s : Filled ns before area at 
         within = omega arith;
         place = omega (arith, s.place, fields_size ns i h);
         wrote =
-            rw (e, s.wrote, fields-more ns i h)
+            rw (e, s.wrote, fields_more ns i h)
             (over-more (fields (take i ns)) (six (get_or ns i 0)) before at (sym s.place) (omega (arith, filled_length, filled_room h)));
       }
 

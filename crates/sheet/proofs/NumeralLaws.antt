@@ -1,4 +1,4 @@
--- Fields are exactly the decimal numerals: `read-written` reads back what `field-text` writes, and `written_read` writes what was read.
+-- Fields are exactly the decimal numerals: `read_written` reads back what `field_text` writes, and `written_read` writes what was read.
 -- Both go by one step of a numeral, that ten times a number and a digit is spelled by the number's numeral and that digit.
 use Prim.Native.Nat.{ℕ, zero, suc, ◌+◌, ◌-◌, ◌*◌, ◌/◌, ◌%◌, ◌≤◌, ◌<◌}
 use native.Mathlib.Omega.{arith}

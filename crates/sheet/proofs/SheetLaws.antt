@@ -83,10 +83,10 @@ numbers_more (suc i) s =
     ap (λ x. four (line (take 41 s)) ++ x) (numbers_more i (drop 41 s)) ∙ rw (drop-drop (i * 41) 41 s, d, append_assoc)
 
 -- four numbers a line, where none is malformed
-cut-length : (n : ℕ) (s : List ℕ) → length (cut n s) ≡ n
+cut_length : (n : ℕ) (s : List ℕ) → length (cut n s) ≡ n
 unfolding cut
-cut-length zero s = refl
-cut-length (suc n) s = ap suc (cut-length n (drop 41 s))
+cut_length zero s = refl
+cut_length (suc n) s = ap suc (cut_length n (drop 41 s))
 
 numbers_length : (k : ℕ) (ls : List (List ℕ)) → first_malformed (suc k) ls ≡ 0 → length (numbers ls) ≡ length ls * 4
 unfolding first_malformed numbers
@@ -101,7 +101,7 @@ numbers_length k (l ∷ ls) e = go (line l) e (numbers_length (suc k) ls)
     go (some v) e h = omega (arith, h e)
 
 pub lines_numbers : (s : List ℕ) → first_malformed 1 (lines s) ≡ 0 → length (numbers (lines s)) ≡ count s * 4
-lines_numbers s z = numbers_length 0 (lines s) z ∙ ap (λ n. n * 4) (cut-length (count s) s)
+lines_numbers s z = numbers_length 0 (lines s) z ∙ ap (λ n. n * 4) (cut_length (count s) s)
 
 -- writing behind what is written already
 pub over-more :

@@ -56,9 +56,9 @@ unfolding whole
 whole_short area text h = rw (lt-leb _ _ h)
 
 -- written twice from the start, the longer one last
-over-over : (text more area : List ℕ) → length text ≤ length more → over more (over text area) ≡ over more area
+over_over : (text more area : List ℕ) → length text ≤ length more → over more (over text area) ≡ over more area
 unfolding over
-over-over text more area h =
+over_over text more area h =
     let d : ℕ = length more - length text in
     let e : length more ≡ length text + d = omega arith in
     let f : drop (length more) (text ++ drop (length text) area) ≡ drop (length more) area =
@@ -213,7 +213,7 @@ module _ (o : Outcome) (tokens report : List ℕ) where
           room = omega arith;
           low = omega arith;
           place = w.count ∙ ap length head_fits;
-          wrote = head_is ∙ sym (over-over (first 0) (first 0) before (omega arith)) ∙ ap (over (first 0)) (sym head_is);
+          wrote = head_is ∙ sym (over_over (first 0) (first 0) before (omega arith)) ∙ ap (over (first 0)) (sym head_is);
         }
 
     -- what was there before the head does not matter
@@ -221,7 +221,7 @@ module _ (o : Outcome) (tokens report : List ℕ) where
     lined_from after r v =
         record {
           count = v.count;
-          area = v.area ∙ ap (over all) head_is ∙ over-over (first 0) all before (first_within 0 (omega arith));
+          area = v.area ∙ ap (over all) head_is ∙ over_over (first 0) all before (first_within 0 (omega arith));
           within = v.within;
           part = v.part;
         }

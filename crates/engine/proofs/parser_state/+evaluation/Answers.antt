@@ -22,7 +22,7 @@ use Rattle.reading.specs.Pest as Pest
 use Rattle.engine.proofs.parser_state.+evaluation.Goals as goal
 
 -- ── atomic ──
--- An open entry, the body under the line's atomicity, and the one before it again: put together by `atomic-step`.
+-- An open entry, the body under the line's atomicity, and the one before it again: put together by `atomic_step`.
 
 pub atomic-returns-then-not-enter : goal.atomic-returns-then-not-enter
 atomic-returns-then-not-enter t c = let w = at_13 _ _ (tests _ _ _ _ c.requires.ready.0) _ c.requires.line.0 _ c.line_at-n.ensures _ refl c.requires.line.1 in by_tree _ _ _ _ _ _ _ _ _ w.1 (atomic_refused _ _ _ _ _ c.line_at-n.result.a _ _ _ (refused_by c.enter.result _ _ (c.enter.ensures c.args.tokens.now c.args.scratch.now) (ap not c.if-not-enter.true)))
@@ -67,7 +67,7 @@ pub left_side-returns : goal.left_side-returns
 left_side-returns t c = climbed _ _ _ _ _ _ _ _ _ c.requires.ready.0 c.requires.line _ c.descend-low.ensures _ _ _ c.simple-e.auto.tokens c.simple-e.auto.scratch _ _ _ _ c.loop-i.invariant.0 (omega (arith, c.loop-i-test.false)) c.simple-e.ensures
 
 -- ── lookahead ──
--- An open entry, a checkpoint of the state that looks ahead, the body, `lookahead_end`: put together by `lookahead-step`.
+-- An open entry, a checkpoint of the state that looks ahead, the body, `lookahead_end`: put together by `lookahead_step`.
 
 pub lookahead-returns-then-not-enter : goal.lookahead-returns-then-not-enter
 lookahead-returns-then-not-enter t c = by_tree _ _ _ _ _ _ _ _ _ (at_12 _ _ (tests _ _ _ _ c.requires.ready.0) _ c.requires.line.0 _ c.line_at-n.ensures c.requires.line.1).1 (lookahead_refused _ _ _ _ _ c.line_at-n.result.a _ _ _ (refused_by c.enter.result _ _ (c.enter.ensures c.args.tokens.now c.args.scratch.now) (ap not c.if-not-enter.true)))
@@ -88,7 +88,7 @@ pub lookahead-returns : goal.lookahead-returns
 lookahead-returns t c = by_tree _ _ _ _ _ _ _ _ _ (at_12 _ _ (tests _ _ _ _ c.requires.ready.0) _ c.requires.line.0 _ c.line_at-n.ensures c.requires.line.1).1 (lookahead_step _ _ _ _ _ c.line_at-n.result.a _ _ (eqb c.line_at-n.result.b 1) ((opened_by c.enter.result _ _ (c.enter.ensures c.args.tokens.now c.args.scratch.now) (ap not c.if-not-enter.false))) _ (sym c.lookahead-l.ensures) _ (c.checkpoint.ensures.by_index c.args.tokens.now ∙ ap Pest.checkpoint ((ap (view c.args.tokens.now c.args.scratch.now) c.set_lookahead.ensures) ∙ ap (λ (l : Lookahead). Pest.set_lookahead l (view c.args.tokens.now c.args.scratch.now (fields c.enter.new.s))) c.lookahead_in.ensures)) _ c.node-r.ensures _ (placed c.position-p.ensures) _ (c.lookahead_end.ensures c.node-r.new.tokens))
 
 -- ── optional ──
--- An open entry, the body, `optional_end`: put together by `optional-step`.
+-- An open entry, the body, `optional_end`: put together by `optional_step`.
 
 pub optional-returns-then-not-enter : goal.optional-returns-then-not-enter
 optional-returns-then-not-enter t c = by_tree _ _ _ _ _ _ _ _ _ (at_11 _ _ (tests _ _ _ _ c.requires.ready.0) _ c.requires.line.0 _ c.line_at-n.ensures c.requires.line.1).1 (optional_refused _ _ _ _ _ c.line_at-n.result.a _ _ (refused_by c.enter.result _ _ (c.enter.ensures c.args.tokens.now c.args.scratch.now) (ap not c.if-not-enter.true)))
@@ -153,7 +153,7 @@ pub repeat-returns-in-Stop : goal.repeat-returns-in-Stop
 repeat-returns-in-Stop t c = by_tree _ _ _ _ _ _ _ _ _ (at_10 _ _ (tests _ _ _ _ c.requires.ready.0) _ c.requires.line.0 _ c.line_at-n.ensures c.requires.line.1).1 (repeat_stop c.args.nodes.now c.args.literals.now c.args.text.now c.args.room c.args.depth c.line_at-n.result.a _ _ _ _ _ _ _ ((opened_by c.enter.result _ _ (c.enter.ensures c.args.tokens.now c.args.scratch.now) (ap not c.if-not-enter.false))) c.loop-s.invariant.0 _ (told _ _ _ _ _ _ c.node.ensures c.in-Stop.is))
 
 -- ── restore_on_err ──
--- An open entry, which is not counted, a checkpoint, the body, `restore_on_err_end`: put together by `restore-step`.
+-- An open entry, which is not counted, a checkpoint, the body, `restore_on_err_end`: put together by `restore_step`.
 
 pub restore_on_err-returns-then-not-enter : goal.restore_on_err-returns-then-not-enter
 restore_on_err-returns-then-not-enter t c = by_tree _ _ _ _ _ _ _ _ _ (at_18 _ _ (tests _ _ _ _ c.requires.ready.0) _ c.requires.line.0 _ c.line_at-n.ensures c.requires.line.1).1 (restore_refused _ _ _ _ _ c.line_at-n.result.a _ _ (refused_by c.enter.result _ _ (c.enter.ensures c.args.tokens.now c.args.scratch.now) (ap not c.if-not-enter.true)))
@@ -174,7 +174,7 @@ pub restore_on_err-returns : goal.restore_on_err-returns
 restore_on_err-returns t c = by_tree _ _ _ _ _ _ _ _ _ (at_18 _ _ (tests _ _ _ _ c.requires.ready.0) _ c.requires.line.0 _ c.line_at-n.ensures c.requires.line.1).1 (restore_step _ _ _ _ _ c.line_at-n.result.a _ _ ((opened_by c.enter.result _ _ (c.enter.ensures c.args.tokens.now c.args.scratch.now) (ap not c.if-not-enter.false))) _ (c.checkpoint.ensures.by_index c.args.tokens.now) _ c.node-r.ensures _ (c.restore_on_err_end.ensures c.node-r.new.tokens))
 
 -- ── rule ──
--- An open entry, the rule's Start, the body, `rule_end` from what was noted before: put together by `rule-step`.
+-- An open entry, the rule's Start, the body, `rule_end` from what was noted before: put together by `rule_step`.
 
 pub rule-returns-then-not-enter : goal.rule-returns-then-not-enter
 rule-returns-then-not-enter t c = by_tree _ _ _ _ _ _ _ _ _ (at_8 _ _ (tests _ _ _ _ c.requires.ready.0) _ c.requires.line.0 _ c.line_at-n.ensures c.requires.line.1).2 (rule_refused _ _ _ _ _ c.line_at-n.result.b _ _ _ _ (refused_by c.enter.result _ _ (c.enter.ensures c.args.tokens.now c.args.scratch.now) (ap not c.if-not-enter.true)))
@@ -207,7 +207,7 @@ pub rule-returns-in-Stop : goal.rule-returns-in-Stop
 rule-returns-in-Stop t c = by_tree _ _ _ _ _ _ _ _ _ (at_8 _ _ (tests _ _ _ _ c.requires.ready.0) _ c.requires.line.0 _ c.line_at-n.ensures c.requires.line.1).2 (rule_stop _ _ _ _ _ c.line_at-n.result.b _ _ _ _ ((opened_by c.enter.result _ _ (c.enter.ensures c.args.tokens.now c.args.scratch.now) (ap not c.if-not-enter.false))) _ (told _ _ _ _ _ _ (c.start_rule.ensures.result_after (setting_of c.args.nodes.now c.args.literals.now c.args.text.now c.args.room) c.args.scratch.now refl) c.in-Stop.is))
 
 -- ── sequence ──
--- An open entry, a checkpoint, the body, `sequence_end`: each one's equation, put together by `sequence-step`.
+-- An open entry, a checkpoint, the body, `sequence_end`: each one's equation, put together by `sequence_step`.
 
 pub sequence-returns-then-not-enter : goal.sequence-returns-then-not-enter
 sequence-returns-then-not-enter t c = by_tree _ _ _ _ _ _ _ _ _ (at_9 _ _ (tests _ _ _ _ c.requires.ready.0) _ c.requires.line.0 _ c.line_at-n.ensures c.requires.line.1).1 (sequence_refused _ _ _ _ _ c.line_at-n.result.a _ _ (refused_by c.enter.result _ _ (c.enter.ensures c.args.tokens.now c.args.scratch.now) (ap not c.if-not-enter.true)))

@@ -1,4 +1,4 @@
--- What Sound says of the two innermost checkpoints (`top-is`, `outer-top`) bounds every difference; one law for each way out.
+-- What Sound says of the two innermost checkpoints (`top_is`, `outer_top`) bounds every difference; one law for each way out.
 use native.Mathlib.Omega.{arith}
 use Rattle.engine.proofs.StackSteps.{top_is, outer_top, clear_none, clear_one, clear_all, clear_some}
 use Rattle.engine.proofs.stack.clear_snapshot.Goals as goal

@@ -1,4 +1,4 @@
--- What Sound says of the innermost checkpoint (`top-is`) bounds every difference; one law for each way out.
+-- What Sound says of the innermost checkpoint (`top_is`) bounds every difference; one law for each way out.
 use native.Mathlib.Omega.{arith}
 use Rattle.engine.proofs.StackSteps.{top_is, restore_none, restore_ok}
 use Rattle.engine.proofs.stack.restore.Goals as goal

@@ -5,7 +5,7 @@ use Prim.Native.Nat.{◌<◌}
 use lib.ListN.{length}
 use Rattle.sheet.specs.Field.{positive, negative}
 use Rattle.sheet.specs.Answers.{field_of}
-use Rattle.sheet.proofs.FieldLaws.{through, field-none, field_minus, field_plus}
+use Rattle.sheet.proofs.FieldLaws.{through, field_none, field_minus, field_plus}
 use borrow.Author.Rules.{rules}
 use Rattle.sheet.proofs.field.read_field.Statement.{statement}
 use Rattle.sheet.proofs.field.read_field.Tie as tie
@@ -15,7 +15,7 @@ spaces-requires c κs = search rules
 
 returns : tie.Need-returns
 unfolding field_of
-returns c = sym (ap field_of (field-none _ _ c.before.spaces.ensures.1 c.if1.true))
+returns c = sym (ap field_of (field_none _ _ c.before.spaces.ensures.1 c.if1.true))
 
 shared-slice-read-if2 : tie.Need-shared-slice-read-if2
 shared-slice-read-if2 c = search rules

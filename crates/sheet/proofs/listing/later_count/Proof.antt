@@ -1,4 +1,4 @@
--- Each way out is one case of `later-count`.
+-- Each way out is one case of `later_count`.
 use Rattle.sheet.proofs.ListingLaws.{count_tokens, count_rules, count_none}
 use Rattle.sheet.proofs.listing.later_count.Statement.{statement}
 use Rattle.sheet.proofs.listing.later_count.Tie as tie

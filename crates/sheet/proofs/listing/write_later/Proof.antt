@@ -1,4 +1,4 @@
--- Each way out is one case of `later-line`.
+-- Each way out is one case of `later_line`.
 use Rattle.sheet.proofs.ListingLaws.{renamed, later_token, later_rule}
 use borrow.Author.Rules.{rules}
 use Rattle.sheet.proofs.listing.write_later.Statement.{statement}

@@ -1,7 +1,7 @@
 -- `put_spaces` writes the last space first.
 use native.Mathlib.Omega.{arith}
 use Prim.Native.Nat.{◌-◌}
-use Rattle.sheet.proofs.ListingLaws.{Blank, blank_none, blank_length, blank-more, blank_all}
+use Rattle.sheet.proofs.ListingLaws.{Blank, blank_none, blank_length, blank_more, blank_all}
 use Rattle.sheet.proofs.numeral.put_spaces.Statement.{statement}
 use Rattle.sheet.proofs.numeral.put_spaces.Tie as tie
 
@@ -24,7 +24,7 @@ loop-less : tie.Need-loop-smaller invariant-loop decreases-loop
 loop-less c = omega arith
 
 loop-again : tie.Need-loop-preserved invariant-loop decreases-loop
-loop-again c = blank-more _ _ _ _ _ c.before.loop.invariant c.loop-test.true
+loop-again c = blank_more _ _ _ _ _ c.before.loop.invariant c.loop-test.true
 
 same_length : tie.Need-same-length invariant-loop decreases-loop
 same_length c = blank_length _ _ _ _ _ c.before.loop.invariant
