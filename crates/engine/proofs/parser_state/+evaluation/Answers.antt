@@ -1,40 +1,80 @@
-use Prim.Native.Nat.{◌-◌, ◌≤◌}
-use mathlib.Core.Path.{refl, ap, sym, ◌∙◌, subst}
+use borrow.Author.Rules.{rules}
+use Prim.Native.Nat.{ℕ, ◌-◌, ◌≤◌}
+use mathlib.Core.Path.{◌≡◌, refl, ap, sym, ◌∙◌, subst}
 use mathlib.Core.Bool.{true, false, not}
-use lib.Dec.{eqb}
-use Rattle.engine.specs.Fields.{fields}
+use lib.Dec.{ltb, eqb}
+use lib.ListN.{length}
+use Rattle.engine.specs.Fields.{state_size, fields}
 use Rattle.engine.specs.Areas.{view, view_end}
+use Rattle.engine.specs.Entry.{opened, entering}
 use Rattle.engine.specs.Evaluation.{Ready, evaluated, setting_of}
 use Rattle.engine.proofs.Steps.{opened_by, refused_by, wide_on, deep, down, tests, ready_open, ready_less, ready_atom, atomic_step, atomic_refused, mark_of, ready_marked, ready_looking, body_ready, placed, lookahead_step, lookahead_refused, optional_step, optional_refused, told, refused_test, passed_test, restore_step, restore_refused, few_of, recording_of, begun, body_rule, place_of, held, rule_step, rule_refused, rule_err, rule_stop, marked_queue, sequence_step, sequence_refused, body_push, push_step, push_refused}
-use Rattle.engine.proofs.LineSteps.{whole, by_tree, at_13, at_12, at_11, fork_at, at_10, moves_10, at_18, at_8, at_9, rule_line, rule_runs, at_14}
-use Rattle.reading.specs.Grammar.{tree_at}
+use Rattle.engine.proofs.LineSteps.{whole, few, by_tree, at_13, at_12, at_11, fork_at, at_10, moves_10, at_18, at_8, at_9, kind_of, rule_line, rule_runs, none_opened, at_14}
+use Rattle.reading.specs.Grammar.{tree_at, kind_at}
 use native.Mathlib.Omega.{arith}
 use Rattle.engine.proofs.Climbs.{goes_yes, goes_no, goes_fork}
-use Rattle.engine.proofs.Walks.{slopes, low_line, low_upto, forks_below, line_whole, first_climb, go_ready, climb_in, climb_line, climb_go, climb_stay, climbed, Walking, top_in, top_stay, top_go}
+use Rattle.engine.proofs.Walks.{Climbing, slopes, low_line, low_upto, forks_below, line_whole, first_climb, go_ready, climb_in, climb_line, climb_go, climb_stay, climbed, Walking, first_walk, top_in, top_stay, top_go}
 use Rattle.reading.specs.declared.parser_state.Lookahead.{Lookahead}
 use Rattle.engine.proofs.LeafSteps.{walk_on, answers}
-use Rattle.engine.specs.Leaves.{answer}
-use Rattle.engine.proofs.Turns.{first_turn, turned, next_turn, repeat_err, repeat_stop, repeat_refused}
+use Rattle.engine.specs.Spine.{Fork}
+use Rattle.engine.specs.Leaves.{Walked, answer}
+use Rattle.engine.proofs.Turns.{Turning, first_turn, turned, next_turn, repeat_err, repeat_stop, repeat_refused}
 use Rattle.matching.specs.declared.position.TokenIndex.{TokenIndex}
 use Rattle.engine.specs.declared.attempts.Attempts.{Attempts}
+use Rattle.reading.specs.Ending.{Ok}
 use Rattle.engine.specs.Attempts.{Few, noted, tried}
+use Rattle.engine.specs.Rule.{starting}
 use Rattle.reading.specs.Pest as Pest
 use Rattle.engine.proofs.parser_state.+evaluation.Goals as goal
 
 -- ── atomic ──
--- An open entry, the body under the line's atomicity, and the one before it again: put together by `atomic_step`.
+-- An open entry, the body under the line's atomicity, and the one before it again: put together by `atomic-step`.
 
 pub atomic-returns-then-not-enter : goal.atomic-returns-then-not-enter
 atomic-returns-then-not-enter t c = let w = at_13 _ _ (tests _ _ _ _ c.requires.ready.0) _ c.requires.line.0 _ c.line_at-n.ensures _ refl c.requires.line.1 in by_tree _ _ _ _ _ _ _ _ _ w.1 (atomic_refused _ _ _ _ _ c.line_at-n.result.a _ _ _ (refused_by c.enter.result _ _ (c.enter.ensures c.args.tokens.now c.args.scratch.now) (ap not c.if-not-enter.true)))
 
 pub atomic-overflow_sub-deeper : goal.atomic-overflow_sub-deeper
-atomic-overflow_sub-deeper t c = (deep true _ (view c.args.tokens.now c.args.scratch.now (fields c.args.s.now)) (view c.args.tokens.now c.args.scratch.now (fields c.enter.new.s)) ((opened_by c.enter.result _ _ (c.enter.ensures c.args.tokens.now c.args.scratch.now) (ap not c.if-not-enter.false))))
+atomic-overflow_sub-deeper t c =
+    let entered :
+    opened (view c.args.tokens.now c.args.scratch.now (fields c.enter.new.s)) ≡ entering (ltb 0 c.args.depth) true (view c.args.tokens.now c.args.scratch.now (fields c.args.s.now)) =
+    opened_by c.enter.result _ _ (c.enter.ensures c.args.tokens.now c.args.scratch.now) (ap not c.if-not-enter.false) in
+    let deep_open :
+    1 ≤ c.args.depth =
+    deep true _ (view c.args.tokens.now c.args.scratch.now (fields c.args.s.now)) (view c.args.tokens.now c.args.scratch.now (fields c.enter.new.s)) entered in
+    deep_open
 
 pub atomic-node-r-requires : goal.atomic-node-r-requires
-atomic-node-r-requires t c = (down _ _ _ t ((deep true _ (view c.args.tokens.now c.args.scratch.now (fields c.args.s.now)) (view c.args.tokens.now c.args.scratch.now (fields c.enter.new.s)) ((opened_by c.enter.result _ _ (c.enter.ensures c.args.tokens.now c.args.scratch.now) (ap not c.if-not-enter.false))))) (at_13 _ _ (tests _ _ _ _ c.requires.ready.0) _ c.requires.line.0 _ c.line_at-n.ensures _ c.atomicity_of.ensures c.requires.line.1).0.high (tests _ _ _ _ c.requires.ready.0).few c.decreases, (((subst (λ (m : Pest.ParserState). Ready c.args.nodes.now c.args.literals.now c.args.text.now c.args.tokens.now c.args.scratch.now c.args.room (c.args.depth - 1) m) (sym ((ap (view c.args.tokens.now c.args.scratch.now) c.set_atomicity.ensures))) (ready_atom _ _ _ _ (ready_less _ _ _ _ ((ready_open _ _ _ _ _ _ true _ _ (view c.args.tokens.now c.args.scratch.now (fields c.enter.new.s)) c.requires.ready.0 ((opened_by c.enter.result _ _ (c.enter.ensures c.args.tokens.now c.args.scratch.now) (ap not c.if-not-enter.false)))))) c.atomicity_of.result)), (wide_on ((wide_on c.requires.ready.1 c.enter.auto.s)) c.set_atomicity.auto.s)), (at_13 _ _ (tests _ _ _ _ c.requires.ready.0) _ c.requires.line.0 _ c.line_at-n.ensures _ c.atomicity_of.ensures c.requires.line.1).0))
+atomic-node-r-requires t c =
+    let entered :
+    opened (view c.args.tokens.now c.args.scratch.now (fields c.enter.new.s)) ≡ entering (ltb 0 c.args.depth) true (view c.args.tokens.now c.args.scratch.now (fields c.args.s.now)) =
+    opened_by c.enter.result _ _ (c.enter.ensures c.args.tokens.now c.args.scratch.now) (ap not c.if-not-enter.false) in
+    let open_ready :
+    Ready c.args.nodes.now c.args.literals.now c.args.text.now c.args.tokens.now c.args.scratch.now c.args.room c.args.depth (view c.args.tokens.now c.args.scratch.now (fields c.enter.new.s)) =
+    ready_open _ _ _ _ _ _ true _ _ (view c.args.tokens.now c.args.scratch.now (fields c.enter.new.s)) c.requires.ready.0 entered in
+    let deep_open :
+    1 ≤ c.args.depth =
+    deep true _ (view c.args.tokens.now c.args.scratch.now (fields c.args.s.now)) (view c.args.tokens.now c.args.scratch.now (fields c.enter.new.s)) entered in
+    let wide : state_size ≤ length c.enter.new.s = wide_on c.requires.ready.1 c.enter.auto.s in
+    let toned :
+    (view c.args.tokens.now c.args.scratch.now (fields c.set_atomicity.new.s)) ≡ Pest.set_atomicity c.atomicity_of.result (view c.args.tokens.now c.args.scratch.now (fields c.enter.new.s)) =
+    ap (view c.args.tokens.now c.args.scratch.now) c.set_atomicity.ensures in
+    let toned_ready :
+    Ready c.args.nodes.now c.args.literals.now c.args.text.now c.args.tokens.now c.args.scratch.now c.args.room (c.args.depth - 1) (view c.args.tokens.now c.args.scratch.now (fields c.set_atomicity.new.s)) =
+    subst (λ (m : Pest.ParserState). Ready c.args.nodes.now c.args.literals.now c.args.text.now c.args.tokens.now c.args.scratch.now c.args.room (c.args.depth - 1) m) (sym toned) (ready_atom _ _ _ _ (ready_less _ _ _ _ open_ready) c.atomicity_of.result) in
+    (down _ _ _ t deep_open (at_13 _ _ (tests _ _ _ _ c.requires.ready.0) _ c.requires.line.0 _ c.line_at-n.ensures _ c.atomicity_of.ensures c.requires.line.1).0.high (tests _ _ _ _ c.requires.ready.0).few c.decreases, ((toned_ready, (wide_on wide c.set_atomicity.auto.s)), (at_13 _ _ (tests _ _ _ _ c.requires.ready.0) _ c.requires.line.0 _ c.line_at-n.ensures _ c.atomicity_of.ensures c.requires.line.1).0))
 
 pub atomic-returns : goal.atomic-returns
-atomic-returns t c = by_tree _ _ _ _ _ _ _ _ _ (at_13 _ _ (tests _ _ _ _ c.requires.ready.0) _ c.requires.line.0 _ c.line_at-n.ensures _ c.atomicity_of.ensures c.requires.line.1).1 (atomic_step _ _ _ _ _ c.line_at-n.result.a _ _ c.args.tokens.now c.args.scratch.now _ ((opened_by c.enter.result _ _ (c.enter.ensures c.args.tokens.now c.args.scratch.now) (ap not c.if-not-enter.false))) (ready_atom _ _ _ _ (ready_less _ _ _ _ ((ready_open _ _ _ _ _ _ true _ _ (view c.args.tokens.now c.args.scratch.now (fields c.enter.new.s)) c.requires.ready.0 ((opened_by c.enter.result _ _ (c.enter.ensures c.args.tokens.now c.args.scratch.now) (ap not c.if-not-enter.false)))))) _) _ (c.node-r.ensures ∙ ap (λ (m : Pest.ParserState). evaluated c.args.nodes.now c.args.literals.now c.args.text.now c.args.room (c.args.depth - 1) (tree_at c.args.nodes.now c.args.literals.now c.line_at-n.result.a) m) ((ap (view c.args.tokens.now c.args.scratch.now) c.set_atomicity.ensures))) _ (sym c.atomicity-before.ensures) _ (c.atomic_end.ensures c.node-r.new.tokens c.node-r.new.scratch))
+atomic-returns t c =
+    let entered :
+    opened (view c.args.tokens.now c.args.scratch.now (fields c.enter.new.s)) ≡ entering (ltb 0 c.args.depth) true (view c.args.tokens.now c.args.scratch.now (fields c.args.s.now)) =
+    opened_by c.enter.result _ _ (c.enter.ensures c.args.tokens.now c.args.scratch.now) (ap not c.if-not-enter.false) in
+    let open_ready :
+    Ready c.args.nodes.now c.args.literals.now c.args.text.now c.args.tokens.now c.args.scratch.now c.args.room c.args.depth (view c.args.tokens.now c.args.scratch.now (fields c.enter.new.s)) =
+    ready_open _ _ _ _ _ _ true _ _ (view c.args.tokens.now c.args.scratch.now (fields c.enter.new.s)) c.requires.ready.0 entered in
+    let toned :
+    (view c.args.tokens.now c.args.scratch.now (fields c.set_atomicity.new.s)) ≡ Pest.set_atomicity c.atomicity_of.result (view c.args.tokens.now c.args.scratch.now (fields c.enter.new.s)) =
+    ap (view c.args.tokens.now c.args.scratch.now) c.set_atomicity.ensures in
+    by_tree _ _ _ _ _ _ _ _ _ (at_13 _ _ (tests _ _ _ _ c.requires.ready.0) _ c.requires.line.0 _ c.line_at-n.ensures _ c.atomicity_of.ensures c.requires.line.1).1 (atomic_step _ _ _ _ _ c.line_at-n.result.a _ _ c.args.tokens.now c.args.scratch.now _ entered (ready_atom _ _ _ _ (ready_less _ _ _ _ open_ready) _) _ (c.node-r.ensures ∙ ap (λ (m : Pest.ParserState). evaluated c.args.nodes.now c.args.literals.now c.args.text.now c.args.room (c.args.depth - 1) (tree_at c.args.nodes.now c.args.literals.now c.line_at-n.result.a) m) toned) _ (sym c.atomicity-before.ensures) _ (c.atomic_end.ensures c.node-r.new.tokens c.node-r.new.scratch))
 
 -- ── left_side ──
 -- Down to the leftmost line, and up again line by line: each comes to what its own evaluation comes to (Walks, Climbs).
@@ -67,63 +107,217 @@ pub left_side-returns : goal.left_side-returns
 left_side-returns t c = climbed _ _ _ _ _ _ _ _ _ c.requires.ready.0 c.requires.line _ c.descend-low.ensures _ _ _ c.simple-e.auto.tokens c.simple-e.auto.scratch _ _ _ _ c.loop-i.invariant.0 (omega (arith, c.loop-i-test.false)) c.simple-e.ensures
 
 -- ── lookahead ──
--- An open entry, a checkpoint of the state that looks ahead, the body, `lookahead_end`: put together by `lookahead_step`.
+-- An open entry, a checkpoint of the state that looks ahead, the body, `lookahead_end`: put together by `lookahead-step`.
 
 pub lookahead-returns-then-not-enter : goal.lookahead-returns-then-not-enter
 lookahead-returns-then-not-enter t c = by_tree _ _ _ _ _ _ _ _ _ (at_12 _ _ (tests _ _ _ _ c.requires.ready.0) _ c.requires.line.0 _ c.line_at-n.ensures c.requires.line.1).1 (lookahead_refused _ _ _ _ _ c.line_at-n.result.a _ _ _ (refused_by c.enter.result _ _ (c.enter.ensures c.args.tokens.now c.args.scratch.now) (ap not c.if-not-enter.true)))
 
 pub lookahead-checkpoint-requires-clause-state_ready : goal.lookahead-checkpoint-requires-clause-state_ready
-lookahead-checkpoint-requires-clause-state_ready t c = mark_of _ _ _ _ _ _ _ _ ((subst (λ (m : Pest.ParserState). Ready c.args.nodes.now c.args.literals.now c.args.text.now c.args.tokens.now c.args.scratch.now c.args.room c.args.depth m) (sym ((ap (view c.args.tokens.now c.args.scratch.now) c.set_lookahead.ensures))) (ready_looking _ _ _ _ ((ready_open _ _ _ _ _ _ true _ _ (view c.args.tokens.now c.args.scratch.now (fields c.enter.new.s)) c.requires.ready.0 ((opened_by c.enter.result _ _ (c.enter.ensures c.args.tokens.now c.args.scratch.now) (ap not c.if-not-enter.false))))) c.lookahead_in.result))) ((deep true _ (view c.args.tokens.now c.args.scratch.now (fields c.args.s.now)) (view c.args.tokens.now c.args.scratch.now (fields c.enter.new.s)) ((opened_by c.enter.result _ _ (c.enter.ensures c.args.tokens.now c.args.scratch.now) (ap not c.if-not-enter.false)))))
+lookahead-checkpoint-requires-clause-state_ready t c =
+    let entered :
+    opened (view c.args.tokens.now c.args.scratch.now (fields c.enter.new.s)) ≡ entering (ltb 0 c.args.depth) true (view c.args.tokens.now c.args.scratch.now (fields c.args.s.now)) =
+    opened_by c.enter.result _ _ (c.enter.ensures c.args.tokens.now c.args.scratch.now) (ap not c.if-not-enter.false) in
+    let open_ready :
+    Ready c.args.nodes.now c.args.literals.now c.args.text.now c.args.tokens.now c.args.scratch.now c.args.room c.args.depth (view c.args.tokens.now c.args.scratch.now (fields c.enter.new.s)) =
+    ready_open _ _ _ _ _ _ true _ _ (view c.args.tokens.now c.args.scratch.now (fields c.enter.new.s)) c.requires.ready.0 entered in
+    let deep_open :
+    1 ≤ c.args.depth =
+    deep true _ (view c.args.tokens.now c.args.scratch.now (fields c.args.s.now)) (view c.args.tokens.now c.args.scratch.now (fields c.enter.new.s)) entered in
+    let wide : state_size ≤ length c.enter.new.s = wide_on c.requires.ready.1 c.enter.auto.s in
+    let looking :
+    (view c.args.tokens.now c.args.scratch.now (fields c.set_lookahead.new.s)) ≡ Pest.set_lookahead c.lookahead_in.result (view c.args.tokens.now c.args.scratch.now (fields c.enter.new.s)) =
+    ap (view c.args.tokens.now c.args.scratch.now) c.set_lookahead.ensures in
+    let looking_ready :
+    Ready c.args.nodes.now c.args.literals.now c.args.text.now c.args.tokens.now c.args.scratch.now c.args.room c.args.depth (view c.args.tokens.now c.args.scratch.now (fields c.set_lookahead.new.s)) =
+    subst (λ (m : Pest.ParserState). Ready c.args.nodes.now c.args.literals.now c.args.text.now c.args.tokens.now c.args.scratch.now c.args.room c.args.depth m) (sym looking) (ready_looking _ _ _ _ open_ready c.lookahead_in.result) in
+    mark_of _ _ _ _ _ _ _ _ looking_ready deep_open
 
 pub lookahead-overflow_sub-deeper : goal.lookahead-overflow_sub-deeper
-lookahead-overflow_sub-deeper t c = (deep true _ (view c.args.tokens.now c.args.scratch.now (fields c.args.s.now)) (view c.args.tokens.now c.args.scratch.now (fields c.enter.new.s)) ((opened_by c.enter.result _ _ (c.enter.ensures c.args.tokens.now c.args.scratch.now) (ap not c.if-not-enter.false))))
+lookahead-overflow_sub-deeper t c =
+    let entered :
+    opened (view c.args.tokens.now c.args.scratch.now (fields c.enter.new.s)) ≡ entering (ltb 0 c.args.depth) true (view c.args.tokens.now c.args.scratch.now (fields c.args.s.now)) =
+    opened_by c.enter.result _ _ (c.enter.ensures c.args.tokens.now c.args.scratch.now) (ap not c.if-not-enter.false) in
+    let deep_open :
+    1 ≤ c.args.depth =
+    deep true _ (view c.args.tokens.now c.args.scratch.now (fields c.args.s.now)) (view c.args.tokens.now c.args.scratch.now (fields c.enter.new.s)) entered in
+    deep_open
 
 pub lookahead-node-r-requires : goal.lookahead-node-r-requires
-lookahead-node-r-requires t c = (down _ _ _ t ((deep true _ (view c.args.tokens.now c.args.scratch.now (fields c.args.s.now)) (view c.args.tokens.now c.args.scratch.now (fields c.enter.new.s)) ((opened_by c.enter.result _ _ (c.enter.ensures c.args.tokens.now c.args.scratch.now) (ap not c.if-not-enter.false))))) (at_12 _ _ (tests _ _ _ _ c.requires.ready.0) _ c.requires.line.0 _ c.line_at-n.ensures c.requires.line.1).0.high (tests _ _ _ _ c.requires.ready.0).few c.decreases, (((ready_marked _ _ _ _ ((subst (λ (m : Pest.ParserState). Ready c.args.nodes.now c.args.literals.now c.args.text.now c.args.tokens.now c.args.scratch.now c.args.room c.args.depth m) (sym ((ap (view c.args.tokens.now c.args.scratch.now) c.set_lookahead.ensures))) (ready_looking _ _ _ _ ((ready_open _ _ _ _ _ _ true _ _ (view c.args.tokens.now c.args.scratch.now (fields c.enter.new.s)) c.requires.ready.0 ((opened_by c.enter.result _ _ (c.enter.ensures c.args.tokens.now c.args.scratch.now) (ap not c.if-not-enter.false))))) c.lookahead_in.result))) ((deep true _ (view c.args.tokens.now c.args.scratch.now (fields c.args.s.now)) (view c.args.tokens.now c.args.scratch.now (fields c.enter.new.s)) ((opened_by c.enter.result _ _ (c.enter.ensures c.args.tokens.now c.args.scratch.now) (ap not c.if-not-enter.false))))) _ _ (c.checkpoint.ensures.by_index c.args.tokens.now) c.checkpoint.auto.scratch), (wide_on (wide_on ((wide_on c.requires.ready.1 c.enter.auto.s)) c.set_lookahead.auto.s) c.checkpoint.auto.s)), (at_12 _ _ (tests _ _ _ _ c.requires.ready.0) _ c.requires.line.0 _ c.line_at-n.ensures c.requires.line.1).0))
+lookahead-node-r-requires t c =
+    let entered :
+    opened (view c.args.tokens.now c.args.scratch.now (fields c.enter.new.s)) ≡ entering (ltb 0 c.args.depth) true (view c.args.tokens.now c.args.scratch.now (fields c.args.s.now)) =
+    opened_by c.enter.result _ _ (c.enter.ensures c.args.tokens.now c.args.scratch.now) (ap not c.if-not-enter.false) in
+    let open_ready :
+    Ready c.args.nodes.now c.args.literals.now c.args.text.now c.args.tokens.now c.args.scratch.now c.args.room c.args.depth (view c.args.tokens.now c.args.scratch.now (fields c.enter.new.s)) =
+    ready_open _ _ _ _ _ _ true _ _ (view c.args.tokens.now c.args.scratch.now (fields c.enter.new.s)) c.requires.ready.0 entered in
+    let deep_open :
+    1 ≤ c.args.depth =
+    deep true _ (view c.args.tokens.now c.args.scratch.now (fields c.args.s.now)) (view c.args.tokens.now c.args.scratch.now (fields c.enter.new.s)) entered in
+    let wide : state_size ≤ length c.enter.new.s = wide_on c.requires.ready.1 c.enter.auto.s in
+    let looking :
+    (view c.args.tokens.now c.args.scratch.now (fields c.set_lookahead.new.s)) ≡ Pest.set_lookahead c.lookahead_in.result (view c.args.tokens.now c.args.scratch.now (fields c.enter.new.s)) =
+    ap (view c.args.tokens.now c.args.scratch.now) c.set_lookahead.ensures in
+    let looking_ready :
+    Ready c.args.nodes.now c.args.literals.now c.args.text.now c.args.tokens.now c.args.scratch.now c.args.room c.args.depth (view c.args.tokens.now c.args.scratch.now (fields c.set_lookahead.new.s)) =
+    subst (λ (m : Pest.ParserState). Ready c.args.nodes.now c.args.literals.now c.args.text.now c.args.tokens.now c.args.scratch.now c.args.room c.args.depth m) (sym looking) (ready_looking _ _ _ _ open_ready c.lookahead_in.result) in
+    let marked :
+    Ready c.args.nodes.now c.args.literals.now c.args.text.now c.args.tokens.now c.checkpoint.new.scratch c.args.room (c.args.depth - 1) (view c.args.tokens.now c.checkpoint.new.scratch (fields c.checkpoint.new.s)) =
+    ready_marked _ _ _ _ looking_ready deep_open _ _ (c.checkpoint.ensures.by_index c.args.tokens.now) c.checkpoint.auto.scratch in
+    (down _ _ _ t deep_open (at_12 _ _ (tests _ _ _ _ c.requires.ready.0) _ c.requires.line.0 _ c.line_at-n.ensures c.requires.line.1).0.high (tests _ _ _ _ c.requires.ready.0).few c.decreases, ((marked, (wide_on (wide_on wide c.set_lookahead.auto.s) c.checkpoint.auto.s)), (at_12 _ _ (tests _ _ _ _ c.requires.ready.0) _ c.requires.line.0 _ c.line_at-n.ensures c.requires.line.1).0))
 
 pub lookahead-lookahead_end-requires-clause-end_ready : goal.lookahead-lookahead_end-requires-clause-end_ready
-lookahead-lookahead_end-requires-clause-end_ready t c = body_ready _ _ _ _ _ c.line_at-n.result.a _ _ _ ((ready_marked _ _ _ _ ((subst (λ (m : Pest.ParserState). Ready c.args.nodes.now c.args.literals.now c.args.text.now c.args.tokens.now c.args.scratch.now c.args.room c.args.depth m) (sym ((ap (view c.args.tokens.now c.args.scratch.now) c.set_lookahead.ensures))) (ready_looking _ _ _ _ ((ready_open _ _ _ _ _ _ true _ _ (view c.args.tokens.now c.args.scratch.now (fields c.enter.new.s)) c.requires.ready.0 ((opened_by c.enter.result _ _ (c.enter.ensures c.args.tokens.now c.args.scratch.now) (ap not c.if-not-enter.false))))) c.lookahead_in.result))) ((deep true _ (view c.args.tokens.now c.args.scratch.now (fields c.args.s.now)) (view c.args.tokens.now c.args.scratch.now (fields c.enter.new.s)) ((opened_by c.enter.result _ _ (c.enter.ensures c.args.tokens.now c.args.scratch.now) (ap not c.if-not-enter.false))))) _ _ (c.checkpoint.ensures.by_index c.args.tokens.now) c.checkpoint.auto.scratch)) c.node-r.new.tokens c.node-r.new.scratch c.node-r.auto.scratch (fields c.node-r.new.s) c.node-r.result c.node-r.ensures 0 (omega arith)
+lookahead-lookahead_end-requires-clause-end_ready t c =
+    let entered :
+    opened (view c.args.tokens.now c.args.scratch.now (fields c.enter.new.s)) ≡ entering (ltb 0 c.args.depth) true (view c.args.tokens.now c.args.scratch.now (fields c.args.s.now)) =
+    opened_by c.enter.result _ _ (c.enter.ensures c.args.tokens.now c.args.scratch.now) (ap not c.if-not-enter.false) in
+    let open_ready :
+    Ready c.args.nodes.now c.args.literals.now c.args.text.now c.args.tokens.now c.args.scratch.now c.args.room c.args.depth (view c.args.tokens.now c.args.scratch.now (fields c.enter.new.s)) =
+    ready_open _ _ _ _ _ _ true _ _ (view c.args.tokens.now c.args.scratch.now (fields c.enter.new.s)) c.requires.ready.0 entered in
+    let deep_open :
+    1 ≤ c.args.depth =
+    deep true _ (view c.args.tokens.now c.args.scratch.now (fields c.args.s.now)) (view c.args.tokens.now c.args.scratch.now (fields c.enter.new.s)) entered in
+    let wide : state_size ≤ length c.enter.new.s = wide_on c.requires.ready.1 c.enter.auto.s in
+    let looking :
+    (view c.args.tokens.now c.args.scratch.now (fields c.set_lookahead.new.s)) ≡ Pest.set_lookahead c.lookahead_in.result (view c.args.tokens.now c.args.scratch.now (fields c.enter.new.s)) =
+    ap (view c.args.tokens.now c.args.scratch.now) c.set_lookahead.ensures in
+    let looking_ready :
+    Ready c.args.nodes.now c.args.literals.now c.args.text.now c.args.tokens.now c.args.scratch.now c.args.room c.args.depth (view c.args.tokens.now c.args.scratch.now (fields c.set_lookahead.new.s)) =
+    subst (λ (m : Pest.ParserState). Ready c.args.nodes.now c.args.literals.now c.args.text.now c.args.tokens.now c.args.scratch.now c.args.room c.args.depth m) (sym looking) (ready_looking _ _ _ _ open_ready c.lookahead_in.result) in
+    let marked :
+    Ready c.args.nodes.now c.args.literals.now c.args.text.now c.args.tokens.now c.checkpoint.new.scratch c.args.room (c.args.depth - 1) (view c.args.tokens.now c.checkpoint.new.scratch (fields c.checkpoint.new.s)) =
+    ready_marked _ _ _ _ looking_ready deep_open _ _ (c.checkpoint.ensures.by_index c.args.tokens.now) c.checkpoint.auto.scratch in
+    body_ready _ _ _ _ _ c.line_at-n.result.a _ _ _ marked c.node-r.new.tokens c.node-r.new.scratch c.node-r.auto.scratch (fields c.node-r.new.s) c.node-r.result c.node-r.ensures 0 (omega arith)
 
 pub lookahead-returns : goal.lookahead-returns
-lookahead-returns t c = by_tree _ _ _ _ _ _ _ _ _ (at_12 _ _ (tests _ _ _ _ c.requires.ready.0) _ c.requires.line.0 _ c.line_at-n.ensures c.requires.line.1).1 (lookahead_step _ _ _ _ _ c.line_at-n.result.a _ _ (eqb c.line_at-n.result.b 1) ((opened_by c.enter.result _ _ (c.enter.ensures c.args.tokens.now c.args.scratch.now) (ap not c.if-not-enter.false))) _ (sym c.lookahead-l.ensures) _ (c.checkpoint.ensures.by_index c.args.tokens.now ∙ ap Pest.checkpoint ((ap (view c.args.tokens.now c.args.scratch.now) c.set_lookahead.ensures) ∙ ap (λ (l : Lookahead). Pest.set_lookahead l (view c.args.tokens.now c.args.scratch.now (fields c.enter.new.s))) c.lookahead_in.ensures)) _ c.node-r.ensures _ (placed c.position-p.ensures) _ (c.lookahead_end.ensures c.node-r.new.tokens))
+lookahead-returns t c =
+    let entered :
+    opened (view c.args.tokens.now c.args.scratch.now (fields c.enter.new.s)) ≡ entering (ltb 0 c.args.depth) true (view c.args.tokens.now c.args.scratch.now (fields c.args.s.now)) =
+    opened_by c.enter.result _ _ (c.enter.ensures c.args.tokens.now c.args.scratch.now) (ap not c.if-not-enter.false) in
+    let looking :
+    (view c.args.tokens.now c.args.scratch.now (fields c.set_lookahead.new.s)) ≡ Pest.set_lookahead c.lookahead_in.result (view c.args.tokens.now c.args.scratch.now (fields c.enter.new.s)) =
+    ap (view c.args.tokens.now c.args.scratch.now) c.set_lookahead.ensures in
+    by_tree _ _ _ _ _ _ _ _ _ (at_12 _ _ (tests _ _ _ _ c.requires.ready.0) _ c.requires.line.0 _ c.line_at-n.ensures c.requires.line.1).1 (lookahead_step _ _ _ _ _ c.line_at-n.result.a _ _ (eqb c.line_at-n.result.b 1) entered _ (sym c.lookahead-l.ensures) _ (c.checkpoint.ensures.by_index c.args.tokens.now ∙ ap Pest.checkpoint (looking ∙ ap (λ (l : Lookahead). Pest.set_lookahead l (view c.args.tokens.now c.args.scratch.now (fields c.enter.new.s))) c.lookahead_in.ensures)) _ c.node-r.ensures _ (placed c.position-p.ensures) _ (c.lookahead_end.ensures c.node-r.new.tokens))
 
 -- ── optional ──
--- An open entry, the body, `optional_end`: put together by `optional_step`.
+-- An open entry, the body, `optional_end`: put together by `optional-step`.
 
 pub optional-returns-then-not-enter : goal.optional-returns-then-not-enter
 optional-returns-then-not-enter t c = by_tree _ _ _ _ _ _ _ _ _ (at_11 _ _ (tests _ _ _ _ c.requires.ready.0) _ c.requires.line.0 _ c.line_at-n.ensures c.requires.line.1).1 (optional_refused _ _ _ _ _ c.line_at-n.result.a _ _ (refused_by c.enter.result _ _ (c.enter.ensures c.args.tokens.now c.args.scratch.now) (ap not c.if-not-enter.true)))
 
 pub optional-overflow_sub-deeper : goal.optional-overflow_sub-deeper
-optional-overflow_sub-deeper t c = (deep true _ (view c.args.tokens.now c.args.scratch.now (fields c.args.s.now)) (view c.args.tokens.now c.args.scratch.now (fields c.enter.new.s)) ((opened_by c.enter.result _ _ (c.enter.ensures c.args.tokens.now c.args.scratch.now) (ap not c.if-not-enter.false))))
+optional-overflow_sub-deeper t c =
+    let entered :
+    opened (view c.args.tokens.now c.args.scratch.now (fields c.enter.new.s)) ≡ entering (ltb 0 c.args.depth) true (view c.args.tokens.now c.args.scratch.now (fields c.args.s.now)) =
+    opened_by c.enter.result _ _ (c.enter.ensures c.args.tokens.now c.args.scratch.now) (ap not c.if-not-enter.false) in
+    let deep_open :
+    1 ≤ c.args.depth =
+    deep true _ (view c.args.tokens.now c.args.scratch.now (fields c.args.s.now)) (view c.args.tokens.now c.args.scratch.now (fields c.enter.new.s)) entered in
+    deep_open
 
 pub optional-node-r-requires : goal.optional-node-r-requires
-optional-node-r-requires t c = (down _ _ _ t ((deep true _ (view c.args.tokens.now c.args.scratch.now (fields c.args.s.now)) (view c.args.tokens.now c.args.scratch.now (fields c.enter.new.s)) ((opened_by c.enter.result _ _ (c.enter.ensures c.args.tokens.now c.args.scratch.now) (ap not c.if-not-enter.false))))) (at_11 _ _ (tests _ _ _ _ c.requires.ready.0) _ c.requires.line.0 _ c.line_at-n.ensures c.requires.line.1).0.high (tests _ _ _ _ c.requires.ready.0).few c.decreases, ((ready_less _ _ _ _ ((ready_open _ _ _ _ _ _ true _ _ (view c.args.tokens.now c.args.scratch.now (fields c.enter.new.s)) c.requires.ready.0 ((opened_by c.enter.result _ _ (c.enter.ensures c.args.tokens.now c.args.scratch.now) (ap not c.if-not-enter.false))))), (wide_on c.requires.ready.1 c.enter.auto.s)), (at_11 _ _ (tests _ _ _ _ c.requires.ready.0) _ c.requires.line.0 _ c.line_at-n.ensures c.requires.line.1).0))
+optional-node-r-requires t c =
+    let entered :
+    opened (view c.args.tokens.now c.args.scratch.now (fields c.enter.new.s)) ≡ entering (ltb 0 c.args.depth) true (view c.args.tokens.now c.args.scratch.now (fields c.args.s.now)) =
+    opened_by c.enter.result _ _ (c.enter.ensures c.args.tokens.now c.args.scratch.now) (ap not c.if-not-enter.false) in
+    let open_ready :
+    Ready c.args.nodes.now c.args.literals.now c.args.text.now c.args.tokens.now c.args.scratch.now c.args.room c.args.depth (view c.args.tokens.now c.args.scratch.now (fields c.enter.new.s)) =
+    ready_open _ _ _ _ _ _ true _ _ (view c.args.tokens.now c.args.scratch.now (fields c.enter.new.s)) c.requires.ready.0 entered in
+    let deep_open :
+    1 ≤ c.args.depth =
+    deep true _ (view c.args.tokens.now c.args.scratch.now (fields c.args.s.now)) (view c.args.tokens.now c.args.scratch.now (fields c.enter.new.s)) entered in
+    let wide : state_size ≤ length c.enter.new.s = wide_on c.requires.ready.1 c.enter.auto.s in
+    (down _ _ _ t deep_open (at_11 _ _ (tests _ _ _ _ c.requires.ready.0) _ c.requires.line.0 _ c.line_at-n.ensures c.requires.line.1).0.high (tests _ _ _ _ c.requires.ready.0).few c.decreases, ((ready_less _ _ _ _ open_ready, wide), (at_11 _ _ (tests _ _ _ _ c.requires.ready.0) _ c.requires.line.0 _ c.line_at-n.ensures c.requires.line.1).0))
 
 pub optional-returns : goal.optional-returns
-optional-returns t c = by_tree _ _ _ _ _ _ _ _ _ (at_11 _ _ (tests _ _ _ _ c.requires.ready.0) _ c.requires.line.0 _ c.line_at-n.ensures c.requires.line.1).1 (optional_step _ _ _ _ _ c.line_at-n.result.a _ _ ((opened_by c.enter.result _ _ (c.enter.ensures c.args.tokens.now c.args.scratch.now) (ap not c.if-not-enter.false))) _ c.node-r.ensures _ (c.optional_end.ensures c.node-r.new.tokens c.node-r.new.scratch))
+optional-returns t c =
+    let entered :
+    opened (view c.args.tokens.now c.args.scratch.now (fields c.enter.new.s)) ≡ entering (ltb 0 c.args.depth) true (view c.args.tokens.now c.args.scratch.now (fields c.args.s.now)) =
+    opened_by c.enter.result _ _ (c.enter.ensures c.args.tokens.now c.args.scratch.now) (ap not c.if-not-enter.false) in
+    by_tree _ _ _ _ _ _ _ _ _ (at_11 _ _ (tests _ _ _ _ c.requires.ready.0) _ c.requires.line.0 _ c.line_at-n.ensures c.requires.line.1).1 (optional_step _ _ _ _ _ c.line_at-n.result.a _ _ entered _ c.node-r.ensures _ (c.optional_end.ensures c.node-r.new.tokens c.node-r.new.scratch))
 
 -- ── packed_node ──
 -- Each turn goes over leaves, and then over one fork to its right side; what is left to evaluate is what was to evaluate (Walks). The ending goes out as its number.
 
 pub packed_node-returns-then-w : goal.packed_node-returns-then-w
-packed_node-returns-then-w t c = ap (view_end c.loop-w.tokens c.loop-w.scratch (fields c.set_position.new.s)) (c.packed.ensures.result_value ∙ c.ended.ensures) ∙ answers c.loop-w.tokens c.loop-w.scratch (fields c.set_position.new.s) c.walk-w.result.good ∙ ap (answer c.walk-w.result.good) ((ap (view c.loop-w.tokens c.loop-w.scratch) c.set_position.ensures)) ∙ ((c.walk-w.ensures c.args.room c.args.depth (view c.loop-w.tokens c.loop-w.scratch (fields c.loop-w.s)) c.loop-w.invariant.0.ready.fit (placed c.position-p.ensures))).ended c.if-w.true ∙ c.loop-w.invariant.0.runs
+packed_node-returns-then-w t c =
+    let walked :
+    Walked c.args.nodes.now c.args.literals.now c.args.text.now c.args.room c.args.depth c.loop-w.at (view c.loop-w.tokens c.loop-w.scratch (fields c.loop-w.s)) c.walk-w.result =
+    c.walk-w.ensures c.args.room c.args.depth (view c.loop-w.tokens c.loop-w.scratch (fields c.loop-w.s)) c.loop-w.invariant.0.ready.fit (placed c.position-p.ensures) in
+    let put :
+    (view c.loop-w.tokens c.loop-w.scratch (fields c.set_position.new.s)) ≡ Pest.set_position c.walk-w.result.position.0 (view c.loop-w.tokens c.loop-w.scratch (fields c.loop-w.s)) =
+    ap (view c.loop-w.tokens c.loop-w.scratch) c.set_position.ensures in
+    ap (view_end c.loop-w.tokens c.loop-w.scratch (fields c.set_position.new.s)) (c.packed.ensures.result_value ∙ c.ended.ensures) ∙ answers c.loop-w.tokens c.loop-w.scratch (fields c.set_position.new.s) c.walk-w.result.good ∙ ap (answer c.walk-w.result.good) put ∙ walked.ended c.if-w.true ∙ c.loop-w.invariant.0.runs
 
 pub packed_node-line_at-n-requires : goal.packed_node-line_at-n-requires
-packed_node-line_at-n-requires t c = whole _ _ (tests _ _ _ _ c.requires.ready.0) _ ((subst (λ (m : Pest.ParserState). Walking c.args.nodes.now c.args.literals.now c.args.text.now c.args.room c.args.depth c.args.line c.args.tokens.now c.args.scratch.now (view c.args.tokens.now c.args.scratch.now (fields c.args.s.now)) c.loop-w.tokens c.loop-w.scratch c.walk-w.result.line m) (sym ((ap (view c.loop-w.tokens c.loop-w.scratch) c.set_position.ensures))) (walk_on _ _ _ _ _ _ _ _ _ _ _ _ _ c.loop-w.invariant.0 _ _ (((c.walk-w.ensures c.args.room c.args.depth (view c.loop-w.tokens c.loop-w.scratch (fields c.loop-w.s)) c.loop-w.invariant.0.ready.fit (placed c.position-p.ensures))).going c.if-w.false)))).here
+packed_node-line_at-n-requires t c =
+    let walked :
+    Walked c.args.nodes.now c.args.literals.now c.args.text.now c.args.room c.args.depth c.loop-w.at (view c.loop-w.tokens c.loop-w.scratch (fields c.loop-w.s)) c.walk-w.result =
+    c.walk-w.ensures c.args.room c.args.depth (view c.loop-w.tokens c.loop-w.scratch (fields c.loop-w.s)) c.loop-w.invariant.0.ready.fit (placed c.position-p.ensures) in
+    let put :
+    (view c.loop-w.tokens c.loop-w.scratch (fields c.set_position.new.s)) ≡ Pest.set_position c.walk-w.result.position.0 (view c.loop-w.tokens c.loop-w.scratch (fields c.loop-w.s)) =
+    ap (view c.loop-w.tokens c.loop-w.scratch) c.set_position.ensures in
+    let on :
+    Walking c.args.nodes.now c.args.literals.now c.args.text.now c.args.room c.args.depth c.args.line c.args.tokens.now c.args.scratch.now (view c.args.tokens.now c.args.scratch.now (fields c.args.s.now)) c.loop-w.tokens c.loop-w.scratch c.walk-w.result.line (view c.loop-w.tokens c.loop-w.scratch (fields c.set_position.new.s)) =
+    subst (λ (m : Pest.ParserState). Walking c.args.nodes.now c.args.literals.now c.args.text.now c.args.room c.args.depth c.args.line c.args.tokens.now c.args.scratch.now (view c.args.tokens.now c.args.scratch.now (fields c.args.s.now)) c.loop-w.tokens c.loop-w.scratch c.walk-w.result.line m) (sym put) (walk_on _ _ _ _ _ _ _ _ _ _ _ _ _ c.loop-w.invariant.0 _ _ (walked.going c.if-w.false)) in
+    whole _ _ (tests _ _ _ _ c.requires.ready.0) _ on.here
 
 pub packed_node-left_side-e-requires : goal.packed_node-left_side-e-requires
-packed_node-left_side-e-requires t c = (omega (arith, c.decreases, ((subst (λ (m : Pest.ParserState). Walking c.args.nodes.now c.args.literals.now c.args.text.now c.args.room c.args.depth c.args.line c.args.tokens.now c.args.scratch.now (view c.args.tokens.now c.args.scratch.now (fields c.args.s.now)) c.loop-w.tokens c.loop-w.scratch c.walk-w.result.line m) (sym ((ap (view c.loop-w.tokens c.loop-w.scratch) c.set_position.ensures))) (walk_on _ _ _ _ _ _ _ _ _ _ _ _ _ c.loop-w.invariant.0 _ _ (((c.walk-w.ensures c.args.room c.args.depth (view c.loop-w.tokens c.loop-w.scratch (fields c.loop-w.s)) c.loop-w.invariant.0.ready.fit (placed c.position-p.ensures))).going c.if-w.false)))).upto), ((((subst (λ (m : Pest.ParserState). Walking c.args.nodes.now c.args.literals.now c.args.text.now c.args.room c.args.depth c.args.line c.args.tokens.now c.args.scratch.now (view c.args.tokens.now c.args.scratch.now (fields c.args.s.now)) c.loop-w.tokens c.loop-w.scratch c.walk-w.result.line m) (sym ((ap (view c.loop-w.tokens c.loop-w.scratch) c.set_position.ensures))) (walk_on _ _ _ _ _ _ _ _ _ _ _ _ _ c.loop-w.invariant.0 _ _ (((c.walk-w.ensures c.args.room c.args.depth (view c.loop-w.tokens c.loop-w.scratch (fields c.loop-w.s)) c.loop-w.invariant.0.ready.fit (placed c.position-p.ensures))).going c.if-w.false)))).ready, (wide_on (wide_on c.requires.ready.1 c.loop-w.invariant.1) c.set_position.auto.s)), ((subst (λ (m : Pest.ParserState). Walking c.args.nodes.now c.args.literals.now c.args.text.now c.args.room c.args.depth c.args.line c.args.tokens.now c.args.scratch.now (view c.args.tokens.now c.args.scratch.now (fields c.args.s.now)) c.loop-w.tokens c.loop-w.scratch c.walk-w.result.line m) (sym ((ap (view c.loop-w.tokens c.loop-w.scratch) c.set_position.ensures))) (walk_on _ _ _ _ _ _ _ _ _ _ _ _ _ c.loop-w.invariant.0 _ _ (((c.walk-w.ensures c.args.room c.args.depth (view c.loop-w.tokens c.loop-w.scratch (fields c.loop-w.s)) c.loop-w.invariant.0.ready.fit (placed c.position-p.ensures))).going c.if-w.false)))).here))
+packed_node-left_side-e-requires t c =
+    let walked :
+    Walked c.args.nodes.now c.args.literals.now c.args.text.now c.args.room c.args.depth c.loop-w.at (view c.loop-w.tokens c.loop-w.scratch (fields c.loop-w.s)) c.walk-w.result =
+    c.walk-w.ensures c.args.room c.args.depth (view c.loop-w.tokens c.loop-w.scratch (fields c.loop-w.s)) c.loop-w.invariant.0.ready.fit (placed c.position-p.ensures) in
+    let put :
+    (view c.loop-w.tokens c.loop-w.scratch (fields c.set_position.new.s)) ≡ Pest.set_position c.walk-w.result.position.0 (view c.loop-w.tokens c.loop-w.scratch (fields c.loop-w.s)) =
+    ap (view c.loop-w.tokens c.loop-w.scratch) c.set_position.ensures in
+    let on :
+    Walking c.args.nodes.now c.args.literals.now c.args.text.now c.args.room c.args.depth c.args.line c.args.tokens.now c.args.scratch.now (view c.args.tokens.now c.args.scratch.now (fields c.args.s.now)) c.loop-w.tokens c.loop-w.scratch c.walk-w.result.line (view c.loop-w.tokens c.loop-w.scratch (fields c.set_position.new.s)) =
+    subst (λ (m : Pest.ParserState). Walking c.args.nodes.now c.args.literals.now c.args.text.now c.args.room c.args.depth c.args.line c.args.tokens.now c.args.scratch.now (view c.args.tokens.now c.args.scratch.now (fields c.args.s.now)) c.loop-w.tokens c.loop-w.scratch c.walk-w.result.line m) (sym put) (walk_on _ _ _ _ _ _ _ _ _ _ _ _ _ c.loop-w.invariant.0 _ _ (walked.going c.if-w.false)) in
+    (omega (arith, c.decreases, on.upto), ((on.ready, (wide_on (wide_on c.requires.ready.1 c.loop-w.invariant.1) c.set_position.auto.s)), on.here))
 
 pub packed_node-returns-then-not-goes_right : goal.packed_node-returns-then-not-goes_right
-packed_node-returns-then-not-goes_right t c = told _ _ _ _ _ _
-    (top_stay _ _ _ _ _ _ _ _ _ ((subst (λ (m : Pest.ParserState). Walking c.args.nodes.now c.args.literals.now c.args.text.now c.args.room c.args.depth c.args.line c.args.tokens.now c.args.scratch.now (view c.args.tokens.now c.args.scratch.now (fields c.args.s.now)) c.loop-w.tokens c.loop-w.scratch c.walk-w.result.line m) (sym ((ap (view c.loop-w.tokens c.loop-w.scratch) c.set_position.ensures))) (walk_on _ _ _ _ _ _ _ _ _ _ _ _ _ c.loop-w.invariant.0 _ _ (((c.walk-w.ensures c.args.room c.args.depth (view c.loop-w.tokens c.loop-w.scratch (fields c.loop-w.s)) c.loop-w.invariant.0.ready.fit (placed c.position-p.ensures))).going c.if-w.false)))).ready ((subst (λ (m : Pest.ParserState). Walking c.args.nodes.now c.args.literals.now c.args.text.now c.args.room c.args.depth c.args.line c.args.tokens.now c.args.scratch.now (view c.args.tokens.now c.args.scratch.now (fields c.args.s.now)) c.loop-w.tokens c.loop-w.scratch c.walk-w.result.line m) (sym ((ap (view c.loop-w.tokens c.loop-w.scratch) c.set_position.ensures))) (walk_on _ _ _ _ _ _ _ _ _ _ _ _ _ c.loop-w.invariant.0 _ _ (((c.walk-w.ensures c.args.room c.args.depth (view c.loop-w.tokens c.loop-w.scratch (fields c.loop-w.s)) c.loop-w.invariant.0.ready.fit (placed c.position-p.ensures))).going c.if-w.false)))).here _ c.left_side-e.ensures _ c.line_at-n.ensures (goes_no _ _ _ _ _ (sym c.goes_right.ensures ∙ refused_test c.goes_right.result (ap not c.if-not-goes_right.true))) ∙ ((subst (λ (m : Pest.ParserState). Walking c.args.nodes.now c.args.literals.now c.args.text.now c.args.room c.args.depth c.args.line c.args.tokens.now c.args.scratch.now (view c.args.tokens.now c.args.scratch.now (fields c.args.s.now)) c.loop-w.tokens c.loop-w.scratch c.walk-w.result.line m) (sym ((ap (view c.loop-w.tokens c.loop-w.scratch) c.set_position.ensures))) (walk_on _ _ _ _ _ _ _ _ _ _ _ _ _ c.loop-w.invariant.0 _ _ (((c.walk-w.ensures c.args.room c.args.depth (view c.loop-w.tokens c.loop-w.scratch (fields c.loop-w.s)) c.loop-w.invariant.0.ready.fit (placed c.position-p.ensures))).going c.if-w.false)))).runs)
-    (sym c.packed-then-not-goes_right.ensures.result_value)
+packed_node-returns-then-not-goes_right t c =
+    let walked :
+    Walked c.args.nodes.now c.args.literals.now c.args.text.now c.args.room c.args.depth c.loop-w.at (view c.loop-w.tokens c.loop-w.scratch (fields c.loop-w.s)) c.walk-w.result =
+    c.walk-w.ensures c.args.room c.args.depth (view c.loop-w.tokens c.loop-w.scratch (fields c.loop-w.s)) c.loop-w.invariant.0.ready.fit (placed c.position-p.ensures) in
+    let put :
+    (view c.loop-w.tokens c.loop-w.scratch (fields c.set_position.new.s)) ≡ Pest.set_position c.walk-w.result.position.0 (view c.loop-w.tokens c.loop-w.scratch (fields c.loop-w.s)) =
+    ap (view c.loop-w.tokens c.loop-w.scratch) c.set_position.ensures in
+    let on :
+    Walking c.args.nodes.now c.args.literals.now c.args.text.now c.args.room c.args.depth c.args.line c.args.tokens.now c.args.scratch.now (view c.args.tokens.now c.args.scratch.now (fields c.args.s.now)) c.loop-w.tokens c.loop-w.scratch c.walk-w.result.line (view c.loop-w.tokens c.loop-w.scratch (fields c.set_position.new.s)) =
+    subst (λ (m : Pest.ParserState). Walking c.args.nodes.now c.args.literals.now c.args.text.now c.args.room c.args.depth c.args.line c.args.tokens.now c.args.scratch.now (view c.args.tokens.now c.args.scratch.now (fields c.args.s.now)) c.loop-w.tokens c.loop-w.scratch c.walk-w.result.line m) (sym put) (walk_on _ _ _ _ _ _ _ _ _ _ _ _ _ c.loop-w.invariant.0 _ _ (walked.going c.if-w.false)) in
+    told _ _ _ _ _ _ (top_stay _ _ _ _ _ _ _ _ _ on.ready on.here _ c.left_side-e.ensures _ c.line_at-n.ensures (goes_no _ _ _ _ _ (sym c.goes_right.ensures ∙ refused_test c.goes_right.result (ap not c.if-not-goes_right.true))) ∙ on.runs) (sym c.packed-then-not-goes_right.ensures.result_value)
 
 pub packed_node-loop-w-smaller : goal.packed_node-loop-w-smaller
-packed_node-loop-w-smaller t c = omega (arith, (top_in _ _ _ _ _ _ _ _ _ ((subst (λ (m : Pest.ParserState). Walking c.args.nodes.now c.args.literals.now c.args.text.now c.args.room c.args.depth c.args.line c.args.tokens.now c.args.scratch.now (view c.args.tokens.now c.args.scratch.now (fields c.args.s.now)) c.loop-w.tokens c.loop-w.scratch c.walk-w.result.line m) (sym ((ap (view c.loop-w.tokens c.loop-w.scratch) c.set_position.ensures))) (walk_on _ _ _ _ _ _ _ _ _ _ _ _ _ c.loop-w.invariant.0 _ _ (((c.walk-w.ensures c.args.room c.args.depth (view c.loop-w.tokens c.loop-w.scratch (fields c.loop-w.s)) c.loop-w.invariant.0.ready.fit (placed c.position-p.ensures))).going c.if-w.false)))).ready ((subst (λ (m : Pest.ParserState). Walking c.args.nodes.now c.args.literals.now c.args.text.now c.args.room c.args.depth c.args.line c.args.tokens.now c.args.scratch.now (view c.args.tokens.now c.args.scratch.now (fields c.args.s.now)) c.loop-w.tokens c.loop-w.scratch c.walk-w.result.line m) (sym ((ap (view c.loop-w.tokens c.loop-w.scratch) c.set_position.ensures))) (walk_on _ _ _ _ _ _ _ _ _ _ _ _ _ c.loop-w.invariant.0 _ _ (((c.walk-w.ensures c.args.room c.args.depth (view c.loop-w.tokens c.loop-w.scratch (fields c.loop-w.s)) c.loop-w.invariant.0.ready.fit (placed c.position-p.ensures))).going c.if-w.false)))).here ((fork_at _ _ _ c.line_at-n.ensures (goes_fork _ _ (sym c.goes_right.ensures ∙ passed_test c.goes_right.result (ap not c.if-not-goes_right.false))))) c.left_side-e.new.tokens c.left_side-e.new.scratch c.left_side-e.auto.tokens c.left_side-e.auto.scratch _ c.left_side-e.ensures _ c.line_at-n.ensures).1, (((c.walk-w.ensures c.args.room c.args.depth (view c.loop-w.tokens c.loop-w.scratch (fields c.loop-w.s)) c.loop-w.invariant.0.ready.fit (placed c.position-p.ensures))).going c.if-w.false).upto)
+packed_node-loop-w-smaller t c =
+    let walked :
+    Walked c.args.nodes.now c.args.literals.now c.args.text.now c.args.room c.args.depth c.loop-w.at (view c.loop-w.tokens c.loop-w.scratch (fields c.loop-w.s)) c.walk-w.result =
+    c.walk-w.ensures c.args.room c.args.depth (view c.loop-w.tokens c.loop-w.scratch (fields c.loop-w.s)) c.loop-w.invariant.0.ready.fit (placed c.position-p.ensures) in
+    let put :
+    (view c.loop-w.tokens c.loop-w.scratch (fields c.set_position.new.s)) ≡ Pest.set_position c.walk-w.result.position.0 (view c.loop-w.tokens c.loop-w.scratch (fields c.loop-w.s)) =
+    ap (view c.loop-w.tokens c.loop-w.scratch) c.set_position.ensures in
+    let on :
+    Walking c.args.nodes.now c.args.literals.now c.args.text.now c.args.room c.args.depth c.args.line c.args.tokens.now c.args.scratch.now (view c.args.tokens.now c.args.scratch.now (fields c.args.s.now)) c.loop-w.tokens c.loop-w.scratch c.walk-w.result.line (view c.loop-w.tokens c.loop-w.scratch (fields c.set_position.new.s)) =
+    subst (λ (m : Pest.ParserState). Walking c.args.nodes.now c.args.literals.now c.args.text.now c.args.room c.args.depth c.args.line c.args.tokens.now c.args.scratch.now (view c.args.tokens.now c.args.scratch.now (fields c.args.s.now)) c.loop-w.tokens c.loop-w.scratch c.walk-w.result.line m) (sym put) (walk_on _ _ _ _ _ _ _ _ _ _ _ _ _ c.loop-w.invariant.0 _ _ (walked.going c.if-w.false)) in
+    let is_fork :
+    Fork (kind_at c.args.nodes.now c.walk-w.result.line) =
+    fork_at _ _ _ c.line_at-n.ensures (goes_fork _ _ (sym c.goes_right.ensures ∙ passed_test c.goes_right.result (ap not c.if-not-goes_right.false))) in
+    omega (arith, (top_in _ _ _ _ _ _ _ _ _ on.ready on.here is_fork c.left_side-e.new.tokens c.left_side-e.new.scratch c.left_side-e.auto.tokens c.left_side-e.auto.scratch _ c.left_side-e.ensures _ c.line_at-n.ensures).1, (walked.going c.if-w.false).upto)
 
 pub packed_node-loop-w-preserved : goal.packed_node-loop-w-preserved
-packed_node-loop-w-preserved t c = (top_go _ _ _ _ _ _ _ _ _ ((subst (λ (m : Pest.ParserState). Walking c.args.nodes.now c.args.literals.now c.args.text.now c.args.room c.args.depth c.args.line c.args.tokens.now c.args.scratch.now (view c.args.tokens.now c.args.scratch.now (fields c.args.s.now)) c.loop-w.tokens c.loop-w.scratch c.walk-w.result.line m) (sym ((ap (view c.loop-w.tokens c.loop-w.scratch) c.set_position.ensures))) (walk_on _ _ _ _ _ _ _ _ _ _ _ _ _ c.loop-w.invariant.0 _ _ (((c.walk-w.ensures c.args.room c.args.depth (view c.loop-w.tokens c.loop-w.scratch (fields c.loop-w.s)) c.loop-w.invariant.0.ready.fit (placed c.position-p.ensures))).going c.if-w.false)))).ready ((subst (λ (m : Pest.ParserState). Walking c.args.nodes.now c.args.literals.now c.args.text.now c.args.room c.args.depth c.args.line c.args.tokens.now c.args.scratch.now (view c.args.tokens.now c.args.scratch.now (fields c.args.s.now)) c.loop-w.tokens c.loop-w.scratch c.walk-w.result.line m) (sym ((ap (view c.loop-w.tokens c.loop-w.scratch) c.set_position.ensures))) (walk_on _ _ _ _ _ _ _ _ _ _ _ _ _ c.loop-w.invariant.0 _ _ (((c.walk-w.ensures c.args.room c.args.depth (view c.loop-w.tokens c.loop-w.scratch (fields c.loop-w.s)) c.loop-w.invariant.0.ready.fit (placed c.position-p.ensures))).going c.if-w.false)))).here ((fork_at _ _ _ c.line_at-n.ensures (goes_fork _ _ (sym c.goes_right.ensures ∙ passed_test c.goes_right.result (ap not c.if-not-goes_right.false))))) c.left_side-e.new.tokens c.left_side-e.new.scratch c.left_side-e.auto.tokens c.left_side-e.auto.scratch _ c.left_side-e.ensures _ c.line_at-n.ensures _ _ _ _ ((subst (λ (m : Pest.ParserState). Walking c.args.nodes.now c.args.literals.now c.args.text.now c.args.room c.args.depth c.args.line c.args.tokens.now c.args.scratch.now (view c.args.tokens.now c.args.scratch.now (fields c.args.s.now)) c.loop-w.tokens c.loop-w.scratch c.walk-w.result.line m) (sym ((ap (view c.loop-w.tokens c.loop-w.scratch) c.set_position.ensures))) (walk_on _ _ _ _ _ _ _ _ _ _ _ _ _ c.loop-w.invariant.0 _ _ (((c.walk-w.ensures c.args.room c.args.depth (view c.loop-w.tokens c.loop-w.scratch (fields c.loop-w.s)) c.loop-w.invariant.0.ready.fit (placed c.position-p.ensures))).going c.if-w.false)))) _ (goes_yes _ _ _ _ _ (sym c.goes_right.ensures ∙ passed_test c.goes_right.result (ap not c.if-not-goes_right.false))), c.left_side-e.auto.s ∙ c.set_position.auto.s ∙ c.loop-w.invariant.1)
+packed_node-loop-w-preserved t c =
+    let walked :
+    Walked c.args.nodes.now c.args.literals.now c.args.text.now c.args.room c.args.depth c.loop-w.at (view c.loop-w.tokens c.loop-w.scratch (fields c.loop-w.s)) c.walk-w.result =
+    c.walk-w.ensures c.args.room c.args.depth (view c.loop-w.tokens c.loop-w.scratch (fields c.loop-w.s)) c.loop-w.invariant.0.ready.fit (placed c.position-p.ensures) in
+    let put :
+    (view c.loop-w.tokens c.loop-w.scratch (fields c.set_position.new.s)) ≡ Pest.set_position c.walk-w.result.position.0 (view c.loop-w.tokens c.loop-w.scratch (fields c.loop-w.s)) =
+    ap (view c.loop-w.tokens c.loop-w.scratch) c.set_position.ensures in
+    let on :
+    Walking c.args.nodes.now c.args.literals.now c.args.text.now c.args.room c.args.depth c.args.line c.args.tokens.now c.args.scratch.now (view c.args.tokens.now c.args.scratch.now (fields c.args.s.now)) c.loop-w.tokens c.loop-w.scratch c.walk-w.result.line (view c.loop-w.tokens c.loop-w.scratch (fields c.set_position.new.s)) =
+    subst (λ (m : Pest.ParserState). Walking c.args.nodes.now c.args.literals.now c.args.text.now c.args.room c.args.depth c.args.line c.args.tokens.now c.args.scratch.now (view c.args.tokens.now c.args.scratch.now (fields c.args.s.now)) c.loop-w.tokens c.loop-w.scratch c.walk-w.result.line m) (sym put) (walk_on _ _ _ _ _ _ _ _ _ _ _ _ _ c.loop-w.invariant.0 _ _ (walked.going c.if-w.false)) in
+    let is_fork :
+    Fork (kind_at c.args.nodes.now c.walk-w.result.line) =
+    fork_at _ _ _ c.line_at-n.ensures (goes_fork _ _ (sym c.goes_right.ensures ∙ passed_test c.goes_right.result (ap not c.if-not-goes_right.false))) in
+    (top_go _ _ _ _ _ _ _ _ _ on.ready on.here is_fork c.left_side-e.new.tokens c.left_side-e.new.scratch c.left_side-e.auto.tokens c.left_side-e.auto.scratch _ c.left_side-e.ensures _ c.line_at-n.ensures _ _ _ _ on _ (goes_yes _ _ _ _ _ (sym c.goes_right.ensures ∙ passed_test c.goes_right.result (ap not c.if-not-goes_right.false))), c.left_side-e.auto.s ∙ c.set_position.auto.s ∙ c.loop-w.invariant.1)
 
 -- ── repeat ──
 -- Each turn is the body once more: what is left to run is what was to run (Turns). The body moves on Ok, so that the turns end.
@@ -132,13 +326,35 @@ pub repeat-returns-then-not-enter : goal.repeat-returns-then-not-enter
 repeat-returns-then-not-enter t c = by_tree _ _ _ _ _ _ _ _ _ (at_10 _ _ (tests _ _ _ _ c.requires.ready.0) _ c.requires.line.0 _ c.line_at-n.ensures c.requires.line.1).1 (repeat_refused c.args.nodes.now c.args.literals.now c.args.text.now c.args.room c.args.depth c.line_at-n.result.a _ _ (refused_by c.enter.result _ _ (c.enter.ensures c.args.tokens.now c.args.scratch.now) (ap not c.if-not-enter.true)))
 
 pub repeat-overflow_sub-deeper : goal.repeat-overflow_sub-deeper
-repeat-overflow_sub-deeper t c = (deep true _ (view c.args.tokens.now c.args.scratch.now (fields c.args.s.now)) (view c.args.tokens.now c.args.scratch.now (fields c.enter.new.s)) ((opened_by c.enter.result _ _ (c.enter.ensures c.args.tokens.now c.args.scratch.now) (ap not c.if-not-enter.false))))
+repeat-overflow_sub-deeper t c =
+    let entered :
+    opened (view c.args.tokens.now c.args.scratch.now (fields c.enter.new.s)) ≡ entering (ltb 0 c.args.depth) true (view c.args.tokens.now c.args.scratch.now (fields c.args.s.now)) =
+    opened_by c.enter.result _ _ (c.enter.ensures c.args.tokens.now c.args.scratch.now) (ap not c.if-not-enter.false) in
+    let deep_open :
+    1 ≤ c.args.depth =
+    deep true _ (view c.args.tokens.now c.args.scratch.now (fields c.args.s.now)) (view c.args.tokens.now c.args.scratch.now (fields c.enter.new.s)) entered in
+    deep_open
 
 pub repeat-loop-s-init : goal.repeat-loop-s-init
-repeat-loop-s-init t c = (first_turn _ _ _ _ _ c.line_at-n.result.a _ _ _ (ready_less _ _ _ _ ((ready_open _ _ _ _ _ _ true _ _ (view c.args.tokens.now c.args.scratch.now (fields c.enter.new.s)) c.requires.ready.0 ((opened_by c.enter.result _ _ (c.enter.ensures c.args.tokens.now c.args.scratch.now) (ap not c.if-not-enter.false)))))), refl)
+repeat-loop-s-init t c =
+    let entered :
+    opened (view c.args.tokens.now c.args.scratch.now (fields c.enter.new.s)) ≡ entering (ltb 0 c.args.depth) true (view c.args.tokens.now c.args.scratch.now (fields c.args.s.now)) =
+    opened_by c.enter.result _ _ (c.enter.ensures c.args.tokens.now c.args.scratch.now) (ap not c.if-not-enter.false) in
+    let open_ready :
+    Ready c.args.nodes.now c.args.literals.now c.args.text.now c.args.tokens.now c.args.scratch.now c.args.room c.args.depth (view c.args.tokens.now c.args.scratch.now (fields c.enter.new.s)) =
+    ready_open _ _ _ _ _ _ true _ _ (view c.args.tokens.now c.args.scratch.now (fields c.enter.new.s)) c.requires.ready.0 entered in
+    (first_turn _ _ _ _ _ c.line_at-n.result.a _ _ _ (ready_less _ _ _ _ open_ready), refl)
 
 pub repeat-node-requires : goal.repeat-node-requires
-repeat-node-requires t c = (down _ _ _ t ((deep true _ (view c.args.tokens.now c.args.scratch.now (fields c.args.s.now)) (view c.args.tokens.now c.args.scratch.now (fields c.enter.new.s)) ((opened_by c.enter.result _ _ (c.enter.ensures c.args.tokens.now c.args.scratch.now) (ap not c.if-not-enter.false))))) (at_10 _ _ (tests _ _ _ _ c.requires.ready.0) _ c.requires.line.0 _ c.line_at-n.ensures c.requires.line.1).0.high (tests _ _ _ _ c.requires.ready.0).few c.decreases, ((c.loop-s.invariant.0.ready, (wide_on ((wide_on c.requires.ready.1 c.enter.auto.s)) c.loop-s.invariant.1)), (at_10 _ _ (tests _ _ _ _ c.requires.ready.0) _ c.requires.line.0 _ c.line_at-n.ensures c.requires.line.1).0))
+repeat-node-requires t c =
+    let entered :
+    opened (view c.args.tokens.now c.args.scratch.now (fields c.enter.new.s)) ≡ entering (ltb 0 c.args.depth) true (view c.args.tokens.now c.args.scratch.now (fields c.args.s.now)) =
+    opened_by c.enter.result _ _ (c.enter.ensures c.args.tokens.now c.args.scratch.now) (ap not c.if-not-enter.false) in
+    let deep_open :
+    1 ≤ c.args.depth =
+    deep true _ (view c.args.tokens.now c.args.scratch.now (fields c.args.s.now)) (view c.args.tokens.now c.args.scratch.now (fields c.enter.new.s)) entered in
+    let wide : state_size ≤ length c.enter.new.s = wide_on c.requires.ready.1 c.enter.auto.s in
+    (down _ _ _ t deep_open (at_10 _ _ (tests _ _ _ _ c.requires.ready.0) _ c.requires.line.0 _ c.line_at-n.ensures c.requires.line.1).0.high (tests _ _ _ _ c.requires.ready.0).few c.decreases, ((c.loop-s.invariant.0.ready, (wide_on wide c.loop-s.invariant.1)), (at_10 _ _ (tests _ _ _ _ c.requires.ready.0) _ c.requires.line.0 _ c.line_at-n.ensures c.requires.line.1).0))
 
 pub repeat-loop-s-smaller : goal.repeat-loop-s-smaller
 repeat-loop-s-smaller t c = let w = turned c.args.nodes.now c.args.literals.now c.args.text.now c.args.room c.args.depth c.line_at-n.result.a c.loop-s.tokens c.loop-s.scratch (view c.loop-s.tokens c.loop-s.scratch (fields c.loop-s.s)) (view c.node.new.tokens c.node.new.scratch (fields c.node.new.s)) c.loop-s.invariant.0.ready (at_10 _ _ (tests _ _ _ _ c.requires.ready.0) _ c.requires.line.0 _ c.line_at-n.ensures c.requires.line.1).0 (moves_10 _ _ (tests _ _ _ _ c.requires.ready.0) _ c.requires.line.0 _ c.line_at-n.ensures c.requires.line.1) (told _ _ _ _ _ _ c.node.ensures c.in-Ok.is) in omega (arith, w.0, w.1)
@@ -147,85 +363,261 @@ pub repeat-loop-s-preserved : goal.repeat-loop-s-preserved
 repeat-loop-s-preserved t c = (next_turn c.args.nodes.now c.args.literals.now c.args.text.now c.args.room c.args.depth c.line_at-n.result.a _ _ _ _ _ _ _ _ (view c.node.new.tokens c.node.new.scratch (fields c.node.new.s)) (at_10 _ _ (tests _ _ _ _ c.requires.ready.0) _ c.requires.line.0 _ c.line_at-n.ensures c.requires.line.1).0 (moves_10 _ _ (tests _ _ _ _ c.requires.ready.0) _ c.requires.line.0 _ c.line_at-n.ensures c.requires.line.1) c.loop-s.invariant.0 (told _ _ _ _ _ _ c.node.ensures c.in-Ok.is) c.node.auto.tokens c.node.auto.scratch, c.node.auto.s ∙ c.loop-s.invariant.1)
 
 pub repeat-returns-in-Err : goal.repeat-returns-in-Err
-repeat-returns-in-Err t c = by_tree _ _ _ _ _ _ _ _ _ (at_10 _ _ (tests _ _ _ _ c.requires.ready.0) _ c.requires.line.0 _ c.line_at-n.ensures c.requires.line.1).1 (repeat_err c.args.nodes.now c.args.literals.now c.args.text.now c.args.room c.args.depth c.line_at-n.result.a _ _ _ _ _ _ _ ((opened_by c.enter.result _ _ (c.enter.ensures c.args.tokens.now c.args.scratch.now) (ap not c.if-not-enter.false))) c.loop-s.invariant.0 _ (told _ _ _ _ _ _ c.node.ensures c.in-Err.is) _ (c.forgiven.ensures c.node.new.tokens c.node.new.scratch))
+repeat-returns-in-Err t c =
+    let entered :
+    opened (view c.args.tokens.now c.args.scratch.now (fields c.enter.new.s)) ≡ entering (ltb 0 c.args.depth) true (view c.args.tokens.now c.args.scratch.now (fields c.args.s.now)) =
+    opened_by c.enter.result _ _ (c.enter.ensures c.args.tokens.now c.args.scratch.now) (ap not c.if-not-enter.false) in
+    by_tree _ _ _ _ _ _ _ _ _ (at_10 _ _ (tests _ _ _ _ c.requires.ready.0) _ c.requires.line.0 _ c.line_at-n.ensures c.requires.line.1).1 (repeat_err c.args.nodes.now c.args.literals.now c.args.text.now c.args.room c.args.depth c.line_at-n.result.a _ _ _ _ _ _ _ entered c.loop-s.invariant.0 _ (told _ _ _ _ _ _ c.node.ensures c.in-Err.is) _ (c.forgiven.ensures c.node.new.tokens c.node.new.scratch))
 
 pub repeat-returns-in-Stop : goal.repeat-returns-in-Stop
-repeat-returns-in-Stop t c = by_tree _ _ _ _ _ _ _ _ _ (at_10 _ _ (tests _ _ _ _ c.requires.ready.0) _ c.requires.line.0 _ c.line_at-n.ensures c.requires.line.1).1 (repeat_stop c.args.nodes.now c.args.literals.now c.args.text.now c.args.room c.args.depth c.line_at-n.result.a _ _ _ _ _ _ _ ((opened_by c.enter.result _ _ (c.enter.ensures c.args.tokens.now c.args.scratch.now) (ap not c.if-not-enter.false))) c.loop-s.invariant.0 _ (told _ _ _ _ _ _ c.node.ensures c.in-Stop.is))
+repeat-returns-in-Stop t c =
+    let entered :
+    opened (view c.args.tokens.now c.args.scratch.now (fields c.enter.new.s)) ≡ entering (ltb 0 c.args.depth) true (view c.args.tokens.now c.args.scratch.now (fields c.args.s.now)) =
+    opened_by c.enter.result _ _ (c.enter.ensures c.args.tokens.now c.args.scratch.now) (ap not c.if-not-enter.false) in
+    by_tree _ _ _ _ _ _ _ _ _ (at_10 _ _ (tests _ _ _ _ c.requires.ready.0) _ c.requires.line.0 _ c.line_at-n.ensures c.requires.line.1).1 (repeat_stop c.args.nodes.now c.args.literals.now c.args.text.now c.args.room c.args.depth c.line_at-n.result.a _ _ _ _ _ _ _ entered c.loop-s.invariant.0 _ (told _ _ _ _ _ _ c.node.ensures c.in-Stop.is))
 
 -- ── restore_on_err ──
--- An open entry, which is not counted, a checkpoint, the body, `restore_on_err_end`: put together by `restore_step`.
+-- An open entry, which is not counted, a checkpoint, the body, `restore_on_err_end`: put together by `restore-step`.
 
 pub restore_on_err-returns-then-not-enter : goal.restore_on_err-returns-then-not-enter
 restore_on_err-returns-then-not-enter t c = by_tree _ _ _ _ _ _ _ _ _ (at_18 _ _ (tests _ _ _ _ c.requires.ready.0) _ c.requires.line.0 _ c.line_at-n.ensures c.requires.line.1).1 (restore_refused _ _ _ _ _ c.line_at-n.result.a _ _ (refused_by c.enter.result _ _ (c.enter.ensures c.args.tokens.now c.args.scratch.now) (ap not c.if-not-enter.true)))
 
 pub restore_on_err-checkpoint-requires-clause-state_ready : goal.restore_on_err-checkpoint-requires-clause-state_ready
-restore_on_err-checkpoint-requires-clause-state_ready t c = mark_of _ _ _ _ _ _ _ _ ((ready_open _ _ _ _ _ _ false _ _ (view c.args.tokens.now c.args.scratch.now (fields c.enter.new.s)) c.requires.ready.0 ((opened_by c.enter.result _ _ (c.enter.ensures c.args.tokens.now c.args.scratch.now) (ap not c.if-not-enter.false))))) ((deep false _ (view c.args.tokens.now c.args.scratch.now (fields c.args.s.now)) (view c.args.tokens.now c.args.scratch.now (fields c.enter.new.s)) ((opened_by c.enter.result _ _ (c.enter.ensures c.args.tokens.now c.args.scratch.now) (ap not c.if-not-enter.false)))))
+restore_on_err-checkpoint-requires-clause-state_ready t c =
+    let entered :
+    opened (view c.args.tokens.now c.args.scratch.now (fields c.enter.new.s)) ≡ entering (ltb 0 c.args.depth) false (view c.args.tokens.now c.args.scratch.now (fields c.args.s.now)) =
+    opened_by c.enter.result _ _ (c.enter.ensures c.args.tokens.now c.args.scratch.now) (ap not c.if-not-enter.false) in
+    let open_ready :
+    Ready c.args.nodes.now c.args.literals.now c.args.text.now c.args.tokens.now c.args.scratch.now c.args.room c.args.depth (view c.args.tokens.now c.args.scratch.now (fields c.enter.new.s)) =
+    ready_open _ _ _ _ _ _ false _ _ (view c.args.tokens.now c.args.scratch.now (fields c.enter.new.s)) c.requires.ready.0 entered in
+    let deep_open :
+    1 ≤ c.args.depth =
+    deep false _ (view c.args.tokens.now c.args.scratch.now (fields c.args.s.now)) (view c.args.tokens.now c.args.scratch.now (fields c.enter.new.s)) entered in
+    let wide : state_size ≤ length c.enter.new.s = wide_on c.requires.ready.1 c.enter.auto.s in
+    mark_of _ _ _ _ _ _ _ _ open_ready deep_open
 
 pub restore_on_err-overflow_sub-deeper : goal.restore_on_err-overflow_sub-deeper
-restore_on_err-overflow_sub-deeper t c = (deep false _ (view c.args.tokens.now c.args.scratch.now (fields c.args.s.now)) (view c.args.tokens.now c.args.scratch.now (fields c.enter.new.s)) ((opened_by c.enter.result _ _ (c.enter.ensures c.args.tokens.now c.args.scratch.now) (ap not c.if-not-enter.false))))
+restore_on_err-overflow_sub-deeper t c =
+    let entered :
+    opened (view c.args.tokens.now c.args.scratch.now (fields c.enter.new.s)) ≡ entering (ltb 0 c.args.depth) false (view c.args.tokens.now c.args.scratch.now (fields c.args.s.now)) =
+    opened_by c.enter.result _ _ (c.enter.ensures c.args.tokens.now c.args.scratch.now) (ap not c.if-not-enter.false) in
+    let deep_open :
+    1 ≤ c.args.depth =
+    deep false _ (view c.args.tokens.now c.args.scratch.now (fields c.args.s.now)) (view c.args.tokens.now c.args.scratch.now (fields c.enter.new.s)) entered in
+    deep_open
 
 pub restore_on_err-node-r-requires : goal.restore_on_err-node-r-requires
-restore_on_err-node-r-requires t c = (down _ _ _ t ((deep false _ (view c.args.tokens.now c.args.scratch.now (fields c.args.s.now)) (view c.args.tokens.now c.args.scratch.now (fields c.enter.new.s)) ((opened_by c.enter.result _ _ (c.enter.ensures c.args.tokens.now c.args.scratch.now) (ap not c.if-not-enter.false))))) (at_18 _ _ (tests _ _ _ _ c.requires.ready.0) _ c.requires.line.0 _ c.line_at-n.ensures c.requires.line.1).0.high (tests _ _ _ _ c.requires.ready.0).few c.decreases, (((ready_marked _ _ _ _ ((ready_open _ _ _ _ _ _ false _ _ (view c.args.tokens.now c.args.scratch.now (fields c.enter.new.s)) c.requires.ready.0 ((opened_by c.enter.result _ _ (c.enter.ensures c.args.tokens.now c.args.scratch.now) (ap not c.if-not-enter.false))))) ((deep false _ (view c.args.tokens.now c.args.scratch.now (fields c.args.s.now)) (view c.args.tokens.now c.args.scratch.now (fields c.enter.new.s)) ((opened_by c.enter.result _ _ (c.enter.ensures c.args.tokens.now c.args.scratch.now) (ap not c.if-not-enter.false))))) _ _ (c.checkpoint.ensures.by_index c.args.tokens.now) c.checkpoint.auto.scratch), (wide_on ((wide_on c.requires.ready.1 c.enter.auto.s)) c.checkpoint.auto.s)), (at_18 _ _ (tests _ _ _ _ c.requires.ready.0) _ c.requires.line.0 _ c.line_at-n.ensures c.requires.line.1).0))
+restore_on_err-node-r-requires t c =
+    let entered :
+    opened (view c.args.tokens.now c.args.scratch.now (fields c.enter.new.s)) ≡ entering (ltb 0 c.args.depth) false (view c.args.tokens.now c.args.scratch.now (fields c.args.s.now)) =
+    opened_by c.enter.result _ _ (c.enter.ensures c.args.tokens.now c.args.scratch.now) (ap not c.if-not-enter.false) in
+    let open_ready :
+    Ready c.args.nodes.now c.args.literals.now c.args.text.now c.args.tokens.now c.args.scratch.now c.args.room c.args.depth (view c.args.tokens.now c.args.scratch.now (fields c.enter.new.s)) =
+    ready_open _ _ _ _ _ _ false _ _ (view c.args.tokens.now c.args.scratch.now (fields c.enter.new.s)) c.requires.ready.0 entered in
+    let deep_open :
+    1 ≤ c.args.depth =
+    deep false _ (view c.args.tokens.now c.args.scratch.now (fields c.args.s.now)) (view c.args.tokens.now c.args.scratch.now (fields c.enter.new.s)) entered in
+    let wide : state_size ≤ length c.enter.new.s = wide_on c.requires.ready.1 c.enter.auto.s in
+    let marked :
+    Ready c.args.nodes.now c.args.literals.now c.args.text.now c.args.tokens.now c.checkpoint.new.scratch c.args.room (c.args.depth - 1) (view c.args.tokens.now c.checkpoint.new.scratch (fields c.checkpoint.new.s)) =
+    ready_marked _ _ _ _ open_ready deep_open _ _ (c.checkpoint.ensures.by_index c.args.tokens.now) c.checkpoint.auto.scratch in
+    (down _ _ _ t deep_open (at_18 _ _ (tests _ _ _ _ c.requires.ready.0) _ c.requires.line.0 _ c.line_at-n.ensures c.requires.line.1).0.high (tests _ _ _ _ c.requires.ready.0).few c.decreases, ((marked, (wide_on wide c.checkpoint.auto.s)), (at_18 _ _ (tests _ _ _ _ c.requires.ready.0) _ c.requires.line.0 _ c.line_at-n.ensures c.requires.line.1).0))
 
 pub restore_on_err-restore_on_err_end-requires-clause-end_ready : goal.restore_on_err-restore_on_err_end-requires-clause-end_ready
-restore_on_err-restore_on_err_end-requires-clause-end_ready t c = body_ready _ _ _ _ _ c.line_at-n.result.a _ _ _ ((ready_marked _ _ _ _ ((ready_open _ _ _ _ _ _ false _ _ (view c.args.tokens.now c.args.scratch.now (fields c.enter.new.s)) c.requires.ready.0 ((opened_by c.enter.result _ _ (c.enter.ensures c.args.tokens.now c.args.scratch.now) (ap not c.if-not-enter.false))))) ((deep false _ (view c.args.tokens.now c.args.scratch.now (fields c.args.s.now)) (view c.args.tokens.now c.args.scratch.now (fields c.enter.new.s)) ((opened_by c.enter.result _ _ (c.enter.ensures c.args.tokens.now c.args.scratch.now) (ap not c.if-not-enter.false))))) _ _ (c.checkpoint.ensures.by_index c.args.tokens.now) c.checkpoint.auto.scratch)) c.node-r.new.tokens c.node-r.new.scratch c.node-r.auto.scratch (fields c.node-r.new.s) c.node-r.result c.node-r.ensures 0 (omega arith)
+restore_on_err-restore_on_err_end-requires-clause-end_ready t c =
+    let entered :
+    opened (view c.args.tokens.now c.args.scratch.now (fields c.enter.new.s)) ≡ entering (ltb 0 c.args.depth) false (view c.args.tokens.now c.args.scratch.now (fields c.args.s.now)) =
+    opened_by c.enter.result _ _ (c.enter.ensures c.args.tokens.now c.args.scratch.now) (ap not c.if-not-enter.false) in
+    let open_ready :
+    Ready c.args.nodes.now c.args.literals.now c.args.text.now c.args.tokens.now c.args.scratch.now c.args.room c.args.depth (view c.args.tokens.now c.args.scratch.now (fields c.enter.new.s)) =
+    ready_open _ _ _ _ _ _ false _ _ (view c.args.tokens.now c.args.scratch.now (fields c.enter.new.s)) c.requires.ready.0 entered in
+    let deep_open :
+    1 ≤ c.args.depth =
+    deep false _ (view c.args.tokens.now c.args.scratch.now (fields c.args.s.now)) (view c.args.tokens.now c.args.scratch.now (fields c.enter.new.s)) entered in
+    let wide : state_size ≤ length c.enter.new.s = wide_on c.requires.ready.1 c.enter.auto.s in
+    let marked :
+    Ready c.args.nodes.now c.args.literals.now c.args.text.now c.args.tokens.now c.checkpoint.new.scratch c.args.room (c.args.depth - 1) (view c.args.tokens.now c.checkpoint.new.scratch (fields c.checkpoint.new.s)) =
+    ready_marked _ _ _ _ open_ready deep_open _ _ (c.checkpoint.ensures.by_index c.args.tokens.now) c.checkpoint.auto.scratch in
+    body_ready _ _ _ _ _ c.line_at-n.result.a _ _ _ marked c.node-r.new.tokens c.node-r.new.scratch c.node-r.auto.scratch (fields c.node-r.new.s) c.node-r.result c.node-r.ensures 0 (omega arith)
 
 pub restore_on_err-returns : goal.restore_on_err-returns
-restore_on_err-returns t c = by_tree _ _ _ _ _ _ _ _ _ (at_18 _ _ (tests _ _ _ _ c.requires.ready.0) _ c.requires.line.0 _ c.line_at-n.ensures c.requires.line.1).1 (restore_step _ _ _ _ _ c.line_at-n.result.a _ _ ((opened_by c.enter.result _ _ (c.enter.ensures c.args.tokens.now c.args.scratch.now) (ap not c.if-not-enter.false))) _ (c.checkpoint.ensures.by_index c.args.tokens.now) _ c.node-r.ensures _ (c.restore_on_err_end.ensures c.node-r.new.tokens))
+restore_on_err-returns t c =
+    let entered :
+    opened (view c.args.tokens.now c.args.scratch.now (fields c.enter.new.s)) ≡ entering (ltb 0 c.args.depth) false (view c.args.tokens.now c.args.scratch.now (fields c.args.s.now)) =
+    opened_by c.enter.result _ _ (c.enter.ensures c.args.tokens.now c.args.scratch.now) (ap not c.if-not-enter.false) in
+    by_tree _ _ _ _ _ _ _ _ _ (at_18 _ _ (tests _ _ _ _ c.requires.ready.0) _ c.requires.line.0 _ c.line_at-n.ensures c.requires.line.1).1 (restore_step _ _ _ _ _ c.line_at-n.result.a _ _ entered _ (c.checkpoint.ensures.by_index c.args.tokens.now) _ c.node-r.ensures _ (c.restore_on_err_end.ensures c.node-r.new.tokens))
 
 -- ── rule ──
--- An open entry, the rule's Start, the body, `rule_end` from what was noted before: put together by `rule_step`.
+-- An open entry, the rule's Start, the body, `rule_end` from what was noted before: put together by `rule-step`.
 
 pub rule-returns-then-not-enter : goal.rule-returns-then-not-enter
 rule-returns-then-not-enter t c = by_tree _ _ _ _ _ _ _ _ _ (at_8 _ _ (tests _ _ _ _ c.requires.ready.0) _ c.requires.line.0 _ c.line_at-n.ensures c.requires.line.1).2 (rule_refused _ _ _ _ _ c.line_at-n.result.b _ _ _ _ (refused_by c.enter.result _ _ (c.enter.ensures c.args.tokens.now c.args.scratch.now) (ap not c.if-not-enter.true)))
 
 pub rule-note-noted-requires : goal.rule-note-noted-requires
-rule-note-noted-requires t c = subst Few (sym c.attempts.ensures) (few_of _ _ _ _ c.args.tokens.now c.args.scratch.now _ (fields c.enter.new.s) ((ready_open _ _ _ _ _ _ true _ _ (view c.args.tokens.now c.args.scratch.now (fields c.enter.new.s)) c.requires.ready.0 ((opened_by c.enter.result _ _ (c.enter.ensures c.args.tokens.now c.args.scratch.now) (ap not c.if-not-enter.false))))))
+rule-note-noted-requires t c =
+    let entered :
+    opened (view c.args.tokens.now c.args.scratch.now (fields c.enter.new.s)) ≡ entering (ltb 0 c.args.depth) true (view c.args.tokens.now c.args.scratch.now (fields c.args.s.now)) =
+    opened_by c.enter.result _ _ (c.enter.ensures c.args.tokens.now c.args.scratch.now) (ap not c.if-not-enter.false) in
+    let open_ready :
+    Ready c.args.nodes.now c.args.literals.now c.args.text.now c.args.tokens.now c.args.scratch.now c.args.room c.args.depth (view c.args.tokens.now c.args.scratch.now (fields c.enter.new.s)) =
+    ready_open _ _ _ _ _ _ true _ _ (view c.args.tokens.now c.args.scratch.now (fields c.enter.new.s)) c.requires.ready.0 entered in
+    subst Few (sym c.attempts.ensures) (few_of _ _ _ _ c.args.tokens.now c.args.scratch.now _ (fields c.enter.new.s) open_ready)
 
 pub rule-start_rule-requires-clause-recording : goal.rule-start_rule-requires-clause-recording
-rule-start_rule-requires-clause-recording t c = recording_of _ _ _ _ _ _ _ _ ((ready_open _ _ _ _ _ _ true _ _ (view c.args.tokens.now c.args.scratch.now (fields c.enter.new.s)) c.requires.ready.0 ((opened_by c.enter.result _ _ (c.enter.ensures c.args.tokens.now c.args.scratch.now) (ap not c.if-not-enter.false)))))
+rule-start_rule-requires-clause-recording t c =
+    let entered :
+    opened (view c.args.tokens.now c.args.scratch.now (fields c.enter.new.s)) ≡ entering (ltb 0 c.args.depth) true (view c.args.tokens.now c.args.scratch.now (fields c.args.s.now)) =
+    opened_by c.enter.result _ _ (c.enter.ensures c.args.tokens.now c.args.scratch.now) (ap not c.if-not-enter.false) in
+    let open_ready :
+    Ready c.args.nodes.now c.args.literals.now c.args.text.now c.args.tokens.now c.args.scratch.now c.args.room c.args.depth (view c.args.tokens.now c.args.scratch.now (fields c.enter.new.s)) =
+    ready_open _ _ _ _ _ _ true _ _ (view c.args.tokens.now c.args.scratch.now (fields c.enter.new.s)) c.requires.ready.0 entered in
+    let wide : state_size ≤ length c.enter.new.s = wide_on c.requires.ready.1 c.enter.auto.s in
+    recording_of _ _ _ _ _ _ _ _ open_ready
 
 pub rule-overflow_sub-deeper : goal.rule-overflow_sub-deeper
-rule-overflow_sub-deeper t c = (deep true _ (view c.args.tokens.now c.args.scratch.now (fields c.args.s.now)) (view c.args.tokens.now c.args.scratch.now (fields c.enter.new.s)) ((opened_by c.enter.result _ _ (c.enter.ensures c.args.tokens.now c.args.scratch.now) (ap not c.if-not-enter.false))))
+rule-overflow_sub-deeper t c =
+    let entered :
+    opened (view c.args.tokens.now c.args.scratch.now (fields c.enter.new.s)) ≡ entering (ltb 0 c.args.depth) true (view c.args.tokens.now c.args.scratch.now (fields c.args.s.now)) =
+    opened_by c.enter.result _ _ (c.enter.ensures c.args.tokens.now c.args.scratch.now) (ap not c.if-not-enter.false) in
+    let deep_open :
+    1 ≤ c.args.depth =
+    deep true _ (view c.args.tokens.now c.args.scratch.now (fields c.args.s.now)) (view c.args.tokens.now c.args.scratch.now (fields c.enter.new.s)) entered in
+    deep_open
 
 pub rule-node-r-requires : goal.rule-node-r-requires
-rule-node-r-requires t c = (down _ _ _ t ((deep true _ (view c.args.tokens.now c.args.scratch.now (fields c.args.s.now)) (view c.args.tokens.now c.args.scratch.now (fields c.enter.new.s)) ((opened_by c.enter.result _ _ (c.enter.ensures c.args.tokens.now c.args.scratch.now) (ap not c.if-not-enter.false))))) (at_8 _ _ (tests _ _ _ _ c.requires.ready.0) _ c.requires.line.0 _ c.line_at-n.ensures c.requires.line.1).0.high (tests _ _ _ _ c.requires.ready.0).few c.decreases, (((begun _ _ _ _ ((ready_open _ _ _ _ _ _ true _ _ (view c.args.tokens.now c.args.scratch.now (fields c.enter.new.s)) c.requires.ready.0 ((opened_by c.enter.result _ _ (c.enter.ensures c.args.tokens.now c.args.scratch.now) (ap not c.if-not-enter.false))))) _ _ _ ((told _ _ _ _ _ _ (c.start_rule.ensures.result_after (setting_of c.args.nodes.now c.args.literals.now c.args.text.now c.args.room) c.args.scratch.now refl) c.in-Ok.is)) c.start_rule.auto.tokens), (wide_on ((wide_on c.requires.ready.1 c.enter.auto.s)) c.start_rule.auto.s)), (at_8 _ _ (tests _ _ _ _ c.requires.ready.0) _ c.requires.line.0 _ c.line_at-n.ensures c.requires.line.1).0))
+rule-node-r-requires t c =
+    let entered :
+    opened (view c.args.tokens.now c.args.scratch.now (fields c.enter.new.s)) ≡ entering (ltb 0 c.args.depth) true (view c.args.tokens.now c.args.scratch.now (fields c.args.s.now)) =
+    opened_by c.enter.result _ _ (c.enter.ensures c.args.tokens.now c.args.scratch.now) (ap not c.if-not-enter.false) in
+    let open_ready :
+    Ready c.args.nodes.now c.args.literals.now c.args.text.now c.args.tokens.now c.args.scratch.now c.args.room c.args.depth (view c.args.tokens.now c.args.scratch.now (fields c.enter.new.s)) =
+    ready_open _ _ _ _ _ _ true _ _ (view c.args.tokens.now c.args.scratch.now (fields c.enter.new.s)) c.requires.ready.0 entered in
+    let deep_open :
+    1 ≤ c.args.depth =
+    deep true _ (view c.args.tokens.now c.args.scratch.now (fields c.args.s.now)) (view c.args.tokens.now c.args.scratch.now (fields c.enter.new.s)) entered in
+    let wide : state_size ≤ length c.enter.new.s = wide_on c.requires.ready.1 c.enter.auto.s in
+    let started :
+    Ok (view c.start_rule.new.tokens c.args.scratch.now (fields c.start_rule.new.s)) ≡ starting (setting_of c.args.nodes.now c.args.literals.now c.args.text.now c.args.room) c.args.line (view c.args.tokens.now c.args.scratch.now (fields c.enter.new.s)) =
+    told _ _ _ _ _ _ (c.start_rule.ensures.result_after (setting_of c.args.nodes.now c.args.literals.now c.args.text.now c.args.room) c.args.scratch.now refl) c.in-Ok.is in
+    let started_ready :
+    Ready c.args.nodes.now c.args.literals.now c.args.text.now c.start_rule.new.tokens c.args.scratch.now c.args.room (c.args.depth - 1) (view c.start_rule.new.tokens c.args.scratch.now (fields c.start_rule.new.s)) =
+    begun _ _ _ _ open_ready _ _ _ started c.start_rule.auto.tokens in
+    (down _ _ _ t deep_open (at_8 _ _ (tests _ _ _ _ c.requires.ready.0) _ c.requires.line.0 _ c.line_at-n.ensures c.requires.line.1).0.high (tests _ _ _ _ c.requires.ready.0).few c.decreases, ((started_ready, (wide_on wide c.start_rule.auto.s)), (at_8 _ _ (tests _ _ _ _ c.requires.ready.0) _ c.requires.line.0 _ c.line_at-n.ensures c.requires.line.1).0))
 
 pub rule-overflow_cast-number : goal.rule-overflow_cast-number
 rule-overflow_cast-number t c = let h = (at_8 _ _ (tests _ _ _ _ c.requires.ready.0) _ c.requires.line.0 _ c.line_at-n.ensures c.requires.line.1).1 in omega arith
 
 pub rule-rule_end-requires-clause-rule_end_ready : goal.rule-rule_end-requires-clause-rule_end_ready
-rule-rule_end-requires-clause-rule_end_ready t c = body_rule _ _ _ _ _ c.line_at-n.result.b _ _ _ ((begun _ _ _ _ ((ready_open _ _ _ _ _ _ true _ _ (view c.args.tokens.now c.args.scratch.now (fields c.enter.new.s)) c.requires.ready.0 ((opened_by c.enter.result _ _ (c.enter.ensures c.args.tokens.now c.args.scratch.now) (ap not c.if-not-enter.false))))) _ _ _ ((told _ _ _ _ _ _ (c.start_rule.ensures.result_after (setting_of c.args.nodes.now c.args.literals.now c.args.text.now c.args.room) c.args.scratch.now refl) c.in-Ok.is)) c.start_rule.auto.tokens)) c.node-r.new.tokens c.node-r.new.scratch c.node-r.auto.scratch (fields c.node-r.new.s) c.node-r.result c.node-r.ensures c.node-r.auto.tokens _ (subst (λ (q : TokenIndex). q.0 ≤ c.args.room) (sym c.queue-q.ensures) (place_of _ _ _ _ c.args.tokens.now c.args.scratch.now _ (fields c.enter.new.s) ((ready_open _ _ _ _ _ _ true _ _ (view c.args.tokens.now c.args.scratch.now (fields c.enter.new.s)) c.requires.ready.0 ((opened_by c.enter.result _ _ (c.enter.ensures c.args.tokens.now c.args.scratch.now) (ap not c.if-not-enter.false)))))))
+rule-rule_end-requires-clause-rule_end_ready t c =
+    let entered :
+    opened (view c.args.tokens.now c.args.scratch.now (fields c.enter.new.s)) ≡ entering (ltb 0 c.args.depth) true (view c.args.tokens.now c.args.scratch.now (fields c.args.s.now)) =
+    opened_by c.enter.result _ _ (c.enter.ensures c.args.tokens.now c.args.scratch.now) (ap not c.if-not-enter.false) in
+    let open_ready :
+    Ready c.args.nodes.now c.args.literals.now c.args.text.now c.args.tokens.now c.args.scratch.now c.args.room c.args.depth (view c.args.tokens.now c.args.scratch.now (fields c.enter.new.s)) =
+    ready_open _ _ _ _ _ _ true _ _ (view c.args.tokens.now c.args.scratch.now (fields c.enter.new.s)) c.requires.ready.0 entered in
+    let wide : state_size ≤ length c.enter.new.s = wide_on c.requires.ready.1 c.enter.auto.s in
+    let started :
+    Ok (view c.start_rule.new.tokens c.args.scratch.now (fields c.start_rule.new.s)) ≡ starting (setting_of c.args.nodes.now c.args.literals.now c.args.text.now c.args.room) c.args.line (view c.args.tokens.now c.args.scratch.now (fields c.enter.new.s)) =
+    told _ _ _ _ _ _ (c.start_rule.ensures.result_after (setting_of c.args.nodes.now c.args.literals.now c.args.text.now c.args.room) c.args.scratch.now refl) c.in-Ok.is in
+    let started_ready :
+    Ready c.args.nodes.now c.args.literals.now c.args.text.now c.start_rule.new.tokens c.args.scratch.now c.args.room (c.args.depth - 1) (view c.start_rule.new.tokens c.args.scratch.now (fields c.start_rule.new.s)) =
+    begun _ _ _ _ open_ready _ _ _ started c.start_rule.auto.tokens in
+    body_rule _ _ _ _ _ c.line_at-n.result.b _ _ _ started_ready c.node-r.new.tokens c.node-r.new.scratch c.node-r.auto.scratch (fields c.node-r.new.s) c.node-r.result c.node-r.ensures c.node-r.auto.tokens _ (subst (λ (q : TokenIndex). q.0 ≤ c.args.room) (sym c.queue-q.ensures) (place_of _ _ _ _ c.args.tokens.now c.args.scratch.now _ (fields c.enter.new.s) open_ready))
 
 pub rule-returns-in-Ok : goal.rule-returns-in-Ok
-rule-returns-in-Ok t c = by_tree _ _ _ _ _ _ _ _ _ (at_8 _ _ (tests _ _ _ _ c.requires.ready.0) _ c.requires.line.0 _ c.line_at-n.ensures c.requires.line.1).2 (rule_step _ _ _ _ _ c.line_at-n.result.b _ _ _ _ ((opened_by c.enter.result _ _ (c.enter.ensures c.args.tokens.now c.args.scratch.now) (ap not c.if-not-enter.false))) _ ((told _ _ _ _ _ _ (c.start_rule.ensures.result_after (setting_of c.args.nodes.now c.args.literals.now c.args.text.now c.args.room) c.args.scratch.now refl) c.in-Ok.is)) _ c.node-r.ensures _ (held _ c.queue-q.ensures) _ (placed c.position-p.ensures) _ (c.note-noted.ensures c.args.scratch.now ∙ ap (λ (a : Attempts). noted c.position-p.result.0 (tried c.args.scratch.now a)) c.attempts.ensures) _ (c.rule_end.ensures (setting_of c.args.nodes.now c.args.literals.now c.args.text.now c.args.room) refl))
+rule-returns-in-Ok t c =
+    let entered :
+    opened (view c.args.tokens.now c.args.scratch.now (fields c.enter.new.s)) ≡ entering (ltb 0 c.args.depth) true (view c.args.tokens.now c.args.scratch.now (fields c.args.s.now)) =
+    opened_by c.enter.result _ _ (c.enter.ensures c.args.tokens.now c.args.scratch.now) (ap not c.if-not-enter.false) in
+    let started :
+    Ok (view c.start_rule.new.tokens c.args.scratch.now (fields c.start_rule.new.s)) ≡ starting (setting_of c.args.nodes.now c.args.literals.now c.args.text.now c.args.room) c.args.line (view c.args.tokens.now c.args.scratch.now (fields c.enter.new.s)) =
+    told _ _ _ _ _ _ (c.start_rule.ensures.result_after (setting_of c.args.nodes.now c.args.literals.now c.args.text.now c.args.room) c.args.scratch.now refl) c.in-Ok.is in
+    by_tree _ _ _ _ _ _ _ _ _ (at_8 _ _ (tests _ _ _ _ c.requires.ready.0) _ c.requires.line.0 _ c.line_at-n.ensures c.requires.line.1).2 (rule_step _ _ _ _ _ c.line_at-n.result.b _ _ _ _ entered _ started _ c.node-r.ensures _ (held _ c.queue-q.ensures) _ (placed c.position-p.ensures) _ (c.note-noted.ensures c.args.scratch.now ∙ ap (λ (a : Attempts). noted c.position-p.result.0 (tried c.args.scratch.now a)) c.attempts.ensures) _ (c.rule_end.ensures (setting_of c.args.nodes.now c.args.literals.now c.args.text.now c.args.room) refl))
 
 pub rule-returns-in-Err : goal.rule-returns-in-Err
-rule-returns-in-Err t c = by_tree _ _ _ _ _ _ _ _ _ (at_8 _ _ (tests _ _ _ _ c.requires.ready.0) _ c.requires.line.0 _ c.line_at-n.ensures c.requires.line.1).2 (rule_err _ _ _ _ _ c.line_at-n.result.b _ _ _ _ ((opened_by c.enter.result _ _ (c.enter.ensures c.args.tokens.now c.args.scratch.now) (ap not c.if-not-enter.false))) _ (told _ _ _ _ _ _ (c.start_rule.ensures.result_after (setting_of c.args.nodes.now c.args.literals.now c.args.text.now c.args.room) c.args.scratch.now refl) c.in-Err.is))
+rule-returns-in-Err t c =
+    let entered :
+    opened (view c.args.tokens.now c.args.scratch.now (fields c.enter.new.s)) ≡ entering (ltb 0 c.args.depth) true (view c.args.tokens.now c.args.scratch.now (fields c.args.s.now)) =
+    opened_by c.enter.result _ _ (c.enter.ensures c.args.tokens.now c.args.scratch.now) (ap not c.if-not-enter.false) in
+    by_tree _ _ _ _ _ _ _ _ _ (at_8 _ _ (tests _ _ _ _ c.requires.ready.0) _ c.requires.line.0 _ c.line_at-n.ensures c.requires.line.1).2 (rule_err _ _ _ _ _ c.line_at-n.result.b _ _ _ _ entered _ (told _ _ _ _ _ _ (c.start_rule.ensures.result_after (setting_of c.args.nodes.now c.args.literals.now c.args.text.now c.args.room) c.args.scratch.now refl) c.in-Err.is))
 
 pub rule-returns-in-Stop : goal.rule-returns-in-Stop
-rule-returns-in-Stop t c = by_tree _ _ _ _ _ _ _ _ _ (at_8 _ _ (tests _ _ _ _ c.requires.ready.0) _ c.requires.line.0 _ c.line_at-n.ensures c.requires.line.1).2 (rule_stop _ _ _ _ _ c.line_at-n.result.b _ _ _ _ ((opened_by c.enter.result _ _ (c.enter.ensures c.args.tokens.now c.args.scratch.now) (ap not c.if-not-enter.false))) _ (told _ _ _ _ _ _ (c.start_rule.ensures.result_after (setting_of c.args.nodes.now c.args.literals.now c.args.text.now c.args.room) c.args.scratch.now refl) c.in-Stop.is))
+rule-returns-in-Stop t c =
+    let entered :
+    opened (view c.args.tokens.now c.args.scratch.now (fields c.enter.new.s)) ≡ entering (ltb 0 c.args.depth) true (view c.args.tokens.now c.args.scratch.now (fields c.args.s.now)) =
+    opened_by c.enter.result _ _ (c.enter.ensures c.args.tokens.now c.args.scratch.now) (ap not c.if-not-enter.false) in
+    by_tree _ _ _ _ _ _ _ _ _ (at_8 _ _ (tests _ _ _ _ c.requires.ready.0) _ c.requires.line.0 _ c.line_at-n.ensures c.requires.line.1).2 (rule_stop _ _ _ _ _ c.line_at-n.result.b _ _ _ _ entered _ (told _ _ _ _ _ _ (c.start_rule.ensures.result_after (setting_of c.args.nodes.now c.args.literals.now c.args.text.now c.args.room) c.args.scratch.now refl) c.in-Stop.is))
 
 -- ── sequence ──
--- An open entry, a checkpoint, the body, `sequence_end`: each one's equation, put together by `sequence_step`.
+-- An open entry, a checkpoint, the body, `sequence_end`: each one's equation, put together by `sequence-step`.
 
 pub sequence-returns-then-not-enter : goal.sequence-returns-then-not-enter
 sequence-returns-then-not-enter t c = by_tree _ _ _ _ _ _ _ _ _ (at_9 _ _ (tests _ _ _ _ c.requires.ready.0) _ c.requires.line.0 _ c.line_at-n.ensures c.requires.line.1).1 (sequence_refused _ _ _ _ _ c.line_at-n.result.a _ _ (refused_by c.enter.result _ _ (c.enter.ensures c.args.tokens.now c.args.scratch.now) (ap not c.if-not-enter.true)))
 
 pub sequence-checkpoint-requires-clause-state_ready : goal.sequence-checkpoint-requires-clause-state_ready
-sequence-checkpoint-requires-clause-state_ready t c = mark_of _ _ _ _ _ _ _ _ ((ready_open _ _ _ _ _ _ true _ _ (view c.args.tokens.now c.args.scratch.now (fields c.enter.new.s)) c.requires.ready.0 ((opened_by c.enter.result _ _ (c.enter.ensures c.args.tokens.now c.args.scratch.now) (ap not c.if-not-enter.false))))) ((deep true _ (view c.args.tokens.now c.args.scratch.now (fields c.args.s.now)) (view c.args.tokens.now c.args.scratch.now (fields c.enter.new.s)) ((opened_by c.enter.result _ _ (c.enter.ensures c.args.tokens.now c.args.scratch.now) (ap not c.if-not-enter.false)))))
+sequence-checkpoint-requires-clause-state_ready t c =
+    let entered :
+    opened (view c.args.tokens.now c.args.scratch.now (fields c.enter.new.s)) ≡ entering (ltb 0 c.args.depth) true (view c.args.tokens.now c.args.scratch.now (fields c.args.s.now)) =
+    opened_by c.enter.result _ _ (c.enter.ensures c.args.tokens.now c.args.scratch.now) (ap not c.if-not-enter.false) in
+    let open_ready :
+    Ready c.args.nodes.now c.args.literals.now c.args.text.now c.args.tokens.now c.args.scratch.now c.args.room c.args.depth (view c.args.tokens.now c.args.scratch.now (fields c.enter.new.s)) =
+    ready_open _ _ _ _ _ _ true _ _ (view c.args.tokens.now c.args.scratch.now (fields c.enter.new.s)) c.requires.ready.0 entered in
+    let deep_open :
+    1 ≤ c.args.depth =
+    deep true _ (view c.args.tokens.now c.args.scratch.now (fields c.args.s.now)) (view c.args.tokens.now c.args.scratch.now (fields c.enter.new.s)) entered in
+    let wide : state_size ≤ length c.enter.new.s = wide_on c.requires.ready.1 c.enter.auto.s in
+    mark_of _ _ _ _ _ _ _ _ open_ready deep_open
 
 pub sequence-overflow_sub-deeper : goal.sequence-overflow_sub-deeper
-sequence-overflow_sub-deeper t c = (deep true _ (view c.args.tokens.now c.args.scratch.now (fields c.args.s.now)) (view c.args.tokens.now c.args.scratch.now (fields c.enter.new.s)) ((opened_by c.enter.result _ _ (c.enter.ensures c.args.tokens.now c.args.scratch.now) (ap not c.if-not-enter.false))))
+sequence-overflow_sub-deeper t c =
+    let entered :
+    opened (view c.args.tokens.now c.args.scratch.now (fields c.enter.new.s)) ≡ entering (ltb 0 c.args.depth) true (view c.args.tokens.now c.args.scratch.now (fields c.args.s.now)) =
+    opened_by c.enter.result _ _ (c.enter.ensures c.args.tokens.now c.args.scratch.now) (ap not c.if-not-enter.false) in
+    let deep_open :
+    1 ≤ c.args.depth =
+    deep true _ (view c.args.tokens.now c.args.scratch.now (fields c.args.s.now)) (view c.args.tokens.now c.args.scratch.now (fields c.enter.new.s)) entered in
+    deep_open
 
 pub sequence-node-r-requires : goal.sequence-node-r-requires
-sequence-node-r-requires t c = (down _ _ _ t ((deep true _ (view c.args.tokens.now c.args.scratch.now (fields c.args.s.now)) (view c.args.tokens.now c.args.scratch.now (fields c.enter.new.s)) ((opened_by c.enter.result _ _ (c.enter.ensures c.args.tokens.now c.args.scratch.now) (ap not c.if-not-enter.false))))) (at_9 _ _ (tests _ _ _ _ c.requires.ready.0) _ c.requires.line.0 _ c.line_at-n.ensures c.requires.line.1).0.high (tests _ _ _ _ c.requires.ready.0).few c.decreases, (((ready_marked _ _ _ _ ((ready_open _ _ _ _ _ _ true _ _ (view c.args.tokens.now c.args.scratch.now (fields c.enter.new.s)) c.requires.ready.0 ((opened_by c.enter.result _ _ (c.enter.ensures c.args.tokens.now c.args.scratch.now) (ap not c.if-not-enter.false))))) ((deep true _ (view c.args.tokens.now c.args.scratch.now (fields c.args.s.now)) (view c.args.tokens.now c.args.scratch.now (fields c.enter.new.s)) ((opened_by c.enter.result _ _ (c.enter.ensures c.args.tokens.now c.args.scratch.now) (ap not c.if-not-enter.false))))) _ _ (c.checkpoint.ensures.by_index c.args.tokens.now) c.checkpoint.auto.scratch), (wide_on ((wide_on c.requires.ready.1 c.enter.auto.s)) c.checkpoint.auto.s)), (at_9 _ _ (tests _ _ _ _ c.requires.ready.0) _ c.requires.line.0 _ c.line_at-n.ensures c.requires.line.1).0))
+sequence-node-r-requires t c =
+    let entered :
+    opened (view c.args.tokens.now c.args.scratch.now (fields c.enter.new.s)) ≡ entering (ltb 0 c.args.depth) true (view c.args.tokens.now c.args.scratch.now (fields c.args.s.now)) =
+    opened_by c.enter.result _ _ (c.enter.ensures c.args.tokens.now c.args.scratch.now) (ap not c.if-not-enter.false) in
+    let open_ready :
+    Ready c.args.nodes.now c.args.literals.now c.args.text.now c.args.tokens.now c.args.scratch.now c.args.room c.args.depth (view c.args.tokens.now c.args.scratch.now (fields c.enter.new.s)) =
+    ready_open _ _ _ _ _ _ true _ _ (view c.args.tokens.now c.args.scratch.now (fields c.enter.new.s)) c.requires.ready.0 entered in
+    let deep_open :
+    1 ≤ c.args.depth =
+    deep true _ (view c.args.tokens.now c.args.scratch.now (fields c.args.s.now)) (view c.args.tokens.now c.args.scratch.now (fields c.enter.new.s)) entered in
+    let wide : state_size ≤ length c.enter.new.s = wide_on c.requires.ready.1 c.enter.auto.s in
+    let marked :
+    Ready c.args.nodes.now c.args.literals.now c.args.text.now c.args.tokens.now c.checkpoint.new.scratch c.args.room (c.args.depth - 1) (view c.args.tokens.now c.checkpoint.new.scratch (fields c.checkpoint.new.s)) =
+    ready_marked _ _ _ _ open_ready deep_open _ _ (c.checkpoint.ensures.by_index c.args.tokens.now) c.checkpoint.auto.scratch in
+    (down _ _ _ t deep_open (at_9 _ _ (tests _ _ _ _ c.requires.ready.0) _ c.requires.line.0 _ c.line_at-n.ensures c.requires.line.1).0.high (tests _ _ _ _ c.requires.ready.0).few c.decreases, ((marked, (wide_on wide c.checkpoint.auto.s)), (at_9 _ _ (tests _ _ _ _ c.requires.ready.0) _ c.requires.line.0 _ c.line_at-n.ensures c.requires.line.1).0))
 
 pub sequence-sequence_end-requires-clause-end_ready : goal.sequence-sequence_end-requires-clause-end_ready
-sequence-sequence_end-requires-clause-end_ready t c = body_ready _ _ _ _ _ c.line_at-n.result.a _ _ _ ((ready_marked _ _ _ _ ((ready_open _ _ _ _ _ _ true _ _ (view c.args.tokens.now c.args.scratch.now (fields c.enter.new.s)) c.requires.ready.0 ((opened_by c.enter.result _ _ (c.enter.ensures c.args.tokens.now c.args.scratch.now) (ap not c.if-not-enter.false))))) ((deep true _ (view c.args.tokens.now c.args.scratch.now (fields c.args.s.now)) (view c.args.tokens.now c.args.scratch.now (fields c.enter.new.s)) ((opened_by c.enter.result _ _ (c.enter.ensures c.args.tokens.now c.args.scratch.now) (ap not c.if-not-enter.false))))) _ _ (c.checkpoint.ensures.by_index c.args.tokens.now) c.checkpoint.auto.scratch)) c.node-r.new.tokens c.node-r.new.scratch c.node-r.auto.scratch (fields c.node-r.new.s) c.node-r.result c.node-r.ensures _ (marked_queue c.args.tokens.now c.args.scratch.now c.checkpoint.new.scratch (fields c.enter.new.s) (fields c.checkpoint.new.s) (c.checkpoint.ensures.by_index c.args.tokens.now) _ c.queue-q.ensures)
+sequence-sequence_end-requires-clause-end_ready t c =
+    let entered :
+    opened (view c.args.tokens.now c.args.scratch.now (fields c.enter.new.s)) ≡ entering (ltb 0 c.args.depth) true (view c.args.tokens.now c.args.scratch.now (fields c.args.s.now)) =
+    opened_by c.enter.result _ _ (c.enter.ensures c.args.tokens.now c.args.scratch.now) (ap not c.if-not-enter.false) in
+    let open_ready :
+    Ready c.args.nodes.now c.args.literals.now c.args.text.now c.args.tokens.now c.args.scratch.now c.args.room c.args.depth (view c.args.tokens.now c.args.scratch.now (fields c.enter.new.s)) =
+    ready_open _ _ _ _ _ _ true _ _ (view c.args.tokens.now c.args.scratch.now (fields c.enter.new.s)) c.requires.ready.0 entered in
+    let deep_open :
+    1 ≤ c.args.depth =
+    deep true _ (view c.args.tokens.now c.args.scratch.now (fields c.args.s.now)) (view c.args.tokens.now c.args.scratch.now (fields c.enter.new.s)) entered in
+    let wide : state_size ≤ length c.enter.new.s = wide_on c.requires.ready.1 c.enter.auto.s in
+    let marked :
+    Ready c.args.nodes.now c.args.literals.now c.args.text.now c.args.tokens.now c.checkpoint.new.scratch c.args.room (c.args.depth - 1) (view c.args.tokens.now c.checkpoint.new.scratch (fields c.checkpoint.new.s)) =
+    ready_marked _ _ _ _ open_ready deep_open _ _ (c.checkpoint.ensures.by_index c.args.tokens.now) c.checkpoint.auto.scratch in
+    body_ready _ _ _ _ _ c.line_at-n.result.a _ _ _ marked c.node-r.new.tokens c.node-r.new.scratch c.node-r.auto.scratch (fields c.node-r.new.s) c.node-r.result c.node-r.ensures _ (marked_queue c.args.tokens.now c.args.scratch.now c.checkpoint.new.scratch (fields c.enter.new.s) (fields c.checkpoint.new.s) (c.checkpoint.ensures.by_index c.args.tokens.now) _ c.queue-q.ensures)
 
 pub sequence-returns : goal.sequence-returns
-sequence-returns t c = by_tree _ _ _ _ _ _ _ _ _ (at_9 _ _ (tests _ _ _ _ c.requires.ready.0) _ c.requires.line.0 _ c.line_at-n.ensures c.requires.line.1).1 (sequence_step _ _ _ _ _ c.line_at-n.result.a _ _ ((opened_by c.enter.result _ _ (c.enter.ensures c.args.tokens.now c.args.scratch.now) (ap not c.if-not-enter.false))) _ (c.checkpoint.ensures.by_index c.args.tokens.now) _ c.node-r.ensures _ (held _ c.queue-q.ensures) _ (placed c.position-p.ensures) _ (c.sequence_end.ensures c.node-r.new.tokens))
+sequence-returns t c =
+    let entered :
+    opened (view c.args.tokens.now c.args.scratch.now (fields c.enter.new.s)) ≡ entering (ltb 0 c.args.depth) true (view c.args.tokens.now c.args.scratch.now (fields c.args.s.now)) =
+    opened_by c.enter.result _ _ (c.enter.ensures c.args.tokens.now c.args.scratch.now) (ap not c.if-not-enter.false) in
+    by_tree _ _ _ _ _ _ _ _ _ (at_9 _ _ (tests _ _ _ _ c.requires.ready.0) _ c.requires.line.0 _ c.line_at-n.ensures c.requires.line.1).1 (sequence_step _ _ _ _ _ c.line_at-n.result.a _ _ entered _ (c.checkpoint.ensures.by_index c.args.tokens.now) _ c.node-r.ensures _ (held _ c.queue-q.ensures) _ (placed c.position-p.ensures) _ (c.sequence_end.ensures c.node-r.new.tokens))
 
 -- ── simple ──
 -- Each kind's function answers for its line; a call is evaluated as the rule that it names.
@@ -243,13 +635,43 @@ pub stack_push-returns-then-not-enter : goal.stack_push-returns-then-not-enter
 stack_push-returns-then-not-enter t c = by_tree _ _ _ _ _ _ _ _ _ (at_14 _ _ (tests _ _ _ _ c.requires.ready.0) _ c.requires.line.0 _ c.line_at-n.ensures c.requires.line.1).1 (push_refused _ _ _ _ _ c.line_at-n.result.a _ _ _ (refused_by c.enter.result _ _ (c.enter.ensures c.args.tokens.now c.args.scratch.now) (ap not c.if-not-enter.true)))
 
 pub stack_push-overflow_sub-deeper : goal.stack_push-overflow_sub-deeper
-stack_push-overflow_sub-deeper t c = (deep true _ (view c.args.tokens.now c.args.scratch.now (fields c.args.s.now)) (view c.args.tokens.now c.args.scratch.now (fields c.enter.new.s)) ((opened_by c.enter.result _ _ (c.enter.ensures c.args.tokens.now c.args.scratch.now) (ap not c.if-not-enter.false))))
+stack_push-overflow_sub-deeper t c =
+    let entered :
+    opened (view c.args.tokens.now c.args.scratch.now (fields c.enter.new.s)) ≡ entering (ltb 0 c.args.depth) true (view c.args.tokens.now c.args.scratch.now (fields c.args.s.now)) =
+    opened_by c.enter.result _ _ (c.enter.ensures c.args.tokens.now c.args.scratch.now) (ap not c.if-not-enter.false) in
+    let deep_open :
+    1 ≤ c.args.depth =
+    deep true _ (view c.args.tokens.now c.args.scratch.now (fields c.args.s.now)) (view c.args.tokens.now c.args.scratch.now (fields c.enter.new.s)) entered in
+    deep_open
 
 pub stack_push-node-r-requires : goal.stack_push-node-r-requires
-stack_push-node-r-requires t c = (down _ _ _ t ((deep true _ (view c.args.tokens.now c.args.scratch.now (fields c.args.s.now)) (view c.args.tokens.now c.args.scratch.now (fields c.enter.new.s)) ((opened_by c.enter.result _ _ (c.enter.ensures c.args.tokens.now c.args.scratch.now) (ap not c.if-not-enter.false))))) (at_14 _ _ (tests _ _ _ _ c.requires.ready.0) _ c.requires.line.0 _ c.line_at-n.ensures c.requires.line.1).0.high (tests _ _ _ _ c.requires.ready.0).few c.decreases, ((ready_less _ _ _ _ ((ready_open _ _ _ _ _ _ true _ _ (view c.args.tokens.now c.args.scratch.now (fields c.enter.new.s)) c.requires.ready.0 ((opened_by c.enter.result _ _ (c.enter.ensures c.args.tokens.now c.args.scratch.now) (ap not c.if-not-enter.false))))), (wide_on c.requires.ready.1 c.enter.auto.s)), (at_14 _ _ (tests _ _ _ _ c.requires.ready.0) _ c.requires.line.0 _ c.line_at-n.ensures c.requires.line.1).0))
+stack_push-node-r-requires t c =
+    let entered :
+    opened (view c.args.tokens.now c.args.scratch.now (fields c.enter.new.s)) ≡ entering (ltb 0 c.args.depth) true (view c.args.tokens.now c.args.scratch.now (fields c.args.s.now)) =
+    opened_by c.enter.result _ _ (c.enter.ensures c.args.tokens.now c.args.scratch.now) (ap not c.if-not-enter.false) in
+    let open_ready :
+    Ready c.args.nodes.now c.args.literals.now c.args.text.now c.args.tokens.now c.args.scratch.now c.args.room c.args.depth (view c.args.tokens.now c.args.scratch.now (fields c.enter.new.s)) =
+    ready_open _ _ _ _ _ _ true _ _ (view c.args.tokens.now c.args.scratch.now (fields c.enter.new.s)) c.requires.ready.0 entered in
+    let deep_open :
+    1 ≤ c.args.depth =
+    deep true _ (view c.args.tokens.now c.args.scratch.now (fields c.args.s.now)) (view c.args.tokens.now c.args.scratch.now (fields c.enter.new.s)) entered in
+    let wide : state_size ≤ length c.enter.new.s = wide_on c.requires.ready.1 c.enter.auto.s in
+    (down _ _ _ t deep_open (at_14 _ _ (tests _ _ _ _ c.requires.ready.0) _ c.requires.line.0 _ c.line_at-n.ensures c.requires.line.1).0.high (tests _ _ _ _ c.requires.ready.0).few c.decreases, ((ready_less _ _ _ _ open_ready, wide), (at_14 _ _ (tests _ _ _ _ c.requires.ready.0) _ c.requires.line.0 _ c.line_at-n.ensures c.requires.line.1).0))
 
 pub stack_push-push_end-requires-clause-push_end_ready : goal.stack_push-push_end-requires-clause-push_end_ready
-stack_push-push_end-requires-clause-push_end_ready t c = body_push _ _ _ _ _ c.line_at-n.result.a _ _ _ (ready_less _ _ _ _ ((ready_open _ _ _ _ _ _ true _ _ (view c.args.tokens.now c.args.scratch.now (fields c.enter.new.s)) c.requires.ready.0 ((opened_by c.enter.result _ _ (c.enter.ensures c.args.tokens.now c.args.scratch.now) (ap not c.if-not-enter.false)))))) c.node-r.new.tokens c.node-r.new.scratch c.node-r.auto.scratch (fields c.node-r.new.s) c.node-r.result c.node-r.ensures c.position-p.result (omega (arith, ((ready_open _ _ _ _ _ _ true _ _ (view c.args.tokens.now c.args.scratch.now (fields c.enter.new.s)) c.requires.ready.0 ((opened_by c.enter.result _ _ (c.enter.ensures c.args.tokens.now c.args.scratch.now) (ap not c.if-not-enter.false))))).fit.edge.inside, placed c.position-p.ensures))
+stack_push-push_end-requires-clause-push_end_ready t c =
+    let entered :
+    opened (view c.args.tokens.now c.args.scratch.now (fields c.enter.new.s)) ≡ entering (ltb 0 c.args.depth) true (view c.args.tokens.now c.args.scratch.now (fields c.args.s.now)) =
+    opened_by c.enter.result _ _ (c.enter.ensures c.args.tokens.now c.args.scratch.now) (ap not c.if-not-enter.false) in
+    let open_ready :
+    Ready c.args.nodes.now c.args.literals.now c.args.text.now c.args.tokens.now c.args.scratch.now c.args.room c.args.depth (view c.args.tokens.now c.args.scratch.now (fields c.enter.new.s)) =
+    ready_open _ _ _ _ _ _ true _ _ (view c.args.tokens.now c.args.scratch.now (fields c.enter.new.s)) c.requires.ready.0 entered in
+    let wide : state_size ≤ length c.enter.new.s = wide_on c.requires.ready.1 c.enter.auto.s in
+    body_push _ _ _ _ _ c.line_at-n.result.a _ _ _ (ready_less _ _ _ _ open_ready) c.node-r.new.tokens c.node-r.new.scratch c.node-r.auto.scratch (fields c.node-r.new.s) c.node-r.result c.node-r.ensures c.position-p.result (omega (arith, open_ready.fit.edge.inside, placed c.position-p.ensures))
 
 pub stack_push-returns : goal.stack_push-returns
-stack_push-returns t c = by_tree _ _ _ _ _ _ _ _ _ (at_14 _ _ (tests _ _ _ _ c.requires.ready.0) _ c.requires.line.0 _ c.line_at-n.ensures c.requires.line.1).1 (push_step _ _ _ _ _ c.line_at-n.result.a _ _ _ ((opened_by c.enter.result _ _ (c.enter.ensures c.args.tokens.now c.args.scratch.now) (ap not c.if-not-enter.false))) _ c.node-r.ensures _ (placed c.position-p.ensures) _ (c.push_end.ensures c.args.text.now c.node-r.new.tokens))
+stack_push-returns t c =
+    let entered :
+    opened (view c.args.tokens.now c.args.scratch.now (fields c.enter.new.s)) ≡ entering (ltb 0 c.args.depth) true (view c.args.tokens.now c.args.scratch.now (fields c.args.s.now)) =
+    opened_by c.enter.result _ _ (c.enter.ensures c.args.tokens.now c.args.scratch.now) (ap not c.if-not-enter.false) in
+    by_tree _ _ _ _ _ _ _ _ _ (at_14 _ _ (tests _ _ _ _ c.requires.ready.0) _ c.requires.line.0 _ c.line_at-n.ensures c.requires.line.1).1 (push_step _ _ _ _ _ c.line_at-n.result.a _ _ _ entered _ c.node-r.ensures _ (placed c.position-p.ensures) _ (c.push_end.ensures c.args.text.now c.node-r.new.tokens))
