@@ -13,7 +13,7 @@ import sys
 
 KIT = '/opt/rattle'
 WORD = re.compile(r"[^\s()\[\]{};,.\"\\`]+")
-SIGNATURE = re.compile(r'^\s*(?:(?:abbrev|unfoldable|pub|record|data|instance|let)\s+)*((?:[^\s()\[\]{};,."]+\s+)+):\s')
+SIGNATURE = re.compile(r'^\s*(?:(?:abbrev|unfoldable|pub|record|data|instance|let)\s+)*((?:[^\s()\[\]{};,."]+\s+)+):(?=\s|$)')
 BOUND = re.compile(r'[({]((?:[^\s()\[\]{};,.:"]+ )+):')
 LAMBDA = re.compile(r'λ ((?:[^\s()\[\]{};,.:"]+ ?)+)\.')
 
