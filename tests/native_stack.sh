@@ -1,6 +1,6 @@
 #!/usr/bin/env bash
 # Measures the native stack of a run, which no proof sees: what README.md, "Native stack", and docs/DECISIONS.md, 25, say. Not part of the
-# gate. Needs target/staticlib/libparser_core.a (rt staticlib parser_core), target/bin/planread (rt check planread) and gcc.
+# gate. Needs target/staticlib/libparser_core.a (bash tools/staticlib.sh), target/bin/planread (rt check planread) and gcc.
 #
 # The grammar is that of rust/parser-core/c/native_stack.c: a rule that calls itself, from inside so many nests, until the depth limit
 # refuses it (12, 0, 0). A nest is a line of kind 6 on the left of one of kind 7, with the rest on its right.

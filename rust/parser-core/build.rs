@@ -28,6 +28,6 @@ fn folder(here: &Path) -> PathBuf {
 
 fn missing(library: &Path) -> ! {
     eprintln!("no static library at {}", library.display());
-    eprintln!("write it by `rt staticlib parser_core` at the repository's root, or name its folder in PARSER_CORE_LIB");
+    eprintln!("write it by `bash tools/staticlib.sh` at the repository's root, or name its folder in PARSER_CORE_LIB");
     std::process::exit(1)
 }

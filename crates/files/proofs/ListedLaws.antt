@@ -10,9 +10,7 @@ use lib.ListN.{length, take, drop, replicate, length-append, length-replicate}
 use lib.Seq.{take_at}
 use Rattle.engine.specs.Conclude.{outcome_of}
 use Rattle.reading.specs.declared.call_limit_tracker.LimitKind.{LimitKind}
-use Rattle.reading.specs.declared.call_limit_tracker.LimitKind.TheVariants as LimitKind
 use Rattle.reading.specs.declared.parser_state.Cause.{Cause}
-use Rattle.reading.specs.declared.parser_state.Cause.TheVariants as Cause
 use Rattle.reading.specs.Ending.{Ending, Ok, Err, Stop}
 use Rattle.reading.specs.Forest.{Token, tokens}
 use Rattle.reading.specs.Reading.{State}
@@ -102,10 +100,10 @@ module _
       }
 
 -- An area of 199,897 bytes gets the whole listing: planread prints it all.
-pub whole-listing :
+pub whole_listing :
     (s l t before after : List ℕ) (r : ℕ) → Listed s l t before after r → 199897 ≤ length before → take r after ≡ listing_of s l t
 unfolding over
-whole-listing s l t before after r w h =
+whole_listing s l t before after r w h =
     let x : List ℕ = listing_of s l t in
     let e : whole before x ≡ x = whole_fits before x (omega (arith, w.most)) in
     let a : after ≡ x ++ drop (length x) before = w.written.area ∙ ap (λ y. y ++ drop (length y) before) e in

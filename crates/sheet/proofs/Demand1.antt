@@ -5,7 +5,7 @@ use mathlib.Core.List.{List}
 use lib.IntN.{ℤ}
 use lib.ListN.{length}
 use Rattle.engine.specs.declared.state.Outcome.{Outcome}
-use Rattle.sheet.specs.Sheet.{refused, read, reading, outcome, area_after, SheetRead}
+use Rattle.sheet.specs.Sheet.{refused, reading, outcome, area_after, SheetRead}
 use Rattle.sheet.specs.Demand1.{Refused, Demand1}
 use Rattle.sheet.proofs.SheetLaws.{test_0, test_1, test_2, test_3, lines_numbers}
 

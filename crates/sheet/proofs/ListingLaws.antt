@@ -15,7 +15,7 @@ use Rattle.sheet.specs.Area.{over}
 use Rattle.sheet.specs.Numeral.{numeral, justified}
 use Rattle.sheet.specs.Listing.{six, fields, line_text, token_line, rule_line, later_line, later_count, whole, Written}
 use Rattle.sheet.proofs.NumeralLaws.{numeral_digit, numeral_tens, leads}
-use Rattle.sheet.proofs.SheetLaws.{over-more, over_none, over_length}
+use Rattle.sheet.proofs.SheetLaws.{over_more, over_none, over_length}
 
 -- runs of stores
 module _ {A : Type 0} where
@@ -109,12 +109,12 @@ pub six_length : (n : ℕ) → length (six n) ≡ 6 - length (numeral n) + lengt
 unfolding six justified
 six_length n = simp (length-append, length-replicate)
 
-pub six-put :
+pub six_put :
     (n k p : ℕ) (l m after : List ℕ) (at r : ℕ) → k ≡ length (numeral n) → p ≡ 6 - k → m ≡ sets l at (replicate (at + p - at) 32) →
     after ≡ sets m r (numeral n) → r + length (numeral n) ≡ at + p + k →
     (after ≡ sets l at (six n)) × (at + p + k ≡ at + length (six n))
 unfolding six justified
-six-put n k p l m after at r ek ep em ea er =
+six_put n k p l m after at r ek ep em ea er =
     let g : r ≡ at + (6 - length (numeral n)) = omega arith in
     let h : at + p - at ≡ 6 - length (numeral n) = omega arith in (
       rw (ea, em, g, h, sets_append (replicate (6 - length (numeral n)) 32) (numeral n) l at, length-replicate {A = ℕ} (6 - length (numeral n)) 32),
@@ -197,7 +197,7 @@ module _ (ns before area : List ℕ) (at i : ℕ) (s : Filled ns before area at 
         place = omega (arith, s.place, fields_size ns i h);
         wrote =
             rw (e, s.wrote, fields_more ns i h)
-            (over-more (fields (take i ns)) (six (get_or ns i 0)) before at (sym s.place) (omega (arith, filled_length, filled_room h)));
+            (over_more (fields (take i ns)) (six (get_or ns i 0)) before at (sym s.place) (omega (arith, filled_length, filled_room h)));
       }
 
   module _ (h : length ns ≤ i) where
@@ -211,7 +211,7 @@ module _ (ns before area : List ℕ) (at i : ℕ) (s : Filled ns before area at 
         let w : at + 1 ≤ length (set area at 10) = simp length-set (omega (arith, filled_end)) in
         record {
           count = rw (length-append (fields ns) (10 ∷ [])) (omega arith);
-          area = rw (s.wrote, fields_all ns i h) (over-more (fields ns) (10 ∷ []) before at (sym p) (omega arith));
+          area = rw (s.wrote, fields_all ns i h) (over_more (fields ns) (10 ∷ []) before at (sym p) (omega arith));
           within = w;
           part = sym (length-take-le (at + 1) (set area at 10) w);
         }

@@ -104,11 +104,11 @@ pub lines_numbers : (s : List ℕ) → first_malformed 1 (lines s) ≡ 0 → len
 lines_numbers s z = numbers_length 0 (lines s) z ∙ ap (λ n. n * 4) (cut_length (count s) s)
 
 -- writing behind what is written already
-pub over-more :
+pub over_more :
     {A : Type 0} (pre new area : List A) (at : ℕ) → length pre ≡ at → at + length new ≤ length area →
     sets (over pre area) at new ≡ over (pre ++ new) area
 unfolding over
-over-more pre new area at e h =
+over_more pre new area at e h =
     sets-eq new (pre ++ drop (length pre) area) at (simp (length-append, length-drop) (omega arith))
     ∙ rw (take_at pre (drop (length pre) area) at e, ← e, drop-append-add pre (drop (length pre) area) (length new), drop-drop, length-append)
 
@@ -346,16 +346,16 @@ module _ (s : List ℕ) (n i : ℕ) (before area : List ℤ) (w : NodesPut s n i
     pub put_bad : line (line_at s i) ≡ none → ⊥
     put_bad e = let z : i + 1 ≡ 0 = sym (malformed_here s n i h e) ∙ w.good in omega arith
 
-    pub put-more :
+    pub put_more :
         (k a b c : ℤ) (after : List ℤ) → n * 4 ≤ length before →
         line (line_at s i) ≡ some (record { kind = k; a = a; b = b; c = c }) →
         after ≡ sets area (i * 4) (kept k ∷ kept a ∷ kept b ∷ kept c ∷ []) → NodesPut s n (i + 1) before after
-    put-more k a b c after m e o =
+    put_more k a b c after m e o =
         let q = line_kept _ k a b c e in
         let x : numbers (cut (i + 1) s) ≡ numbers (cut i s) ++ (k ∷ a ∷ b ∷ c ∷ []) = rw (add-one i, numbers_more i s, e) in
         record {
           within = omega arith;
           size = rw x (simp length-append (omega (arith, w.size)));
-          done = rw (o, q.0, q.1, q.2, q.3, w.done, x) (over-more _ (k ∷ a ∷ b ∷ c ∷ []) before (i * 4) w.size (omega arith));
+          done = rw (o, q.0, q.1, q.2, q.3, w.done, x) (over_more _ (k ∷ a ∷ b ∷ c ∷ []) before (i * 4) w.size (omega arith));
           good = sym (malformed_more s n i h _ e) ∙ w.good;
         }

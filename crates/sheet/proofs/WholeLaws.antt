@@ -152,11 +152,11 @@ module _ (o : Outcome) (tokens report : List ℕ) where
     pub room : 61 ≡ length line
     pub sum : size ≡ length (first k)
 
-  pub sized-head :
+  pub sized_head :
       (line after : List ℕ) (size : ℕ) → Numbers → 61 ≡ length line → length after ≡ length line →
       Written (whole line head) line after size → Sized after size 0
   unfolding first_lines
-  sized-head line after size n l e w =
+  sized_head line after size n l e w =
       record {
         numbers = n;
         low = omega arith;
@@ -174,10 +174,10 @@ module _ (o : Outcome) (tokens report : List ℕ) where
     pub sized_line : later_count o < 2 ^ 32
     sized_line = omega (arith, count_most, s.numbers.count)
 
-    pub sized-more :
+    pub sized_more :
         (after : List ℕ) (n : ℕ) → k < later_count o → length after ≡ length line →
         Written (whole line (later k)) line after n → Sized after (size + n) (k + 1)
-    sized-more after n h e w =
+    sized_more after n h e w =
         let m : length (later k) ≤ 61 = later_most s.numbers k (omega (arith, sized_line)) in
         let c : n ≡ length (later k) = w.count ∙ ap length (whole_fits line (later k) (omega (arith, s.room))) in
         record {
@@ -240,11 +240,11 @@ module _ (o : Outcome) (tokens report : List ℕ) where
     abbrev behind : List ℕ
     behind = take (length area - at) (drop at area)
 
-    pub lined-more :
+    pub lined_more :
         (part : List ℕ) (n : ℕ) → k < later_count o → Written (whole behind (later k)) behind part n →
         Lined before (take at area ++ (part ++ drop (length area - at) (drop at area))) (at + n) (k + 1)
     unfolding over
-    lined-more part n h v =
+    lined_more part n h v =
         let p : List ℕ = first k in
         let l : List ℕ = later k in
         let d : List ℕ = drop (length p) before in

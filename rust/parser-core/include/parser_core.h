@@ -1,4 +1,4 @@
-/* The proved parser core for C. Link libparser_core.a (rt staticlib parser_core).
+/* The proved parser core for C. Link libparser_core.a (bash tools/staticlib.sh).
  *
  * Number, place, count and what stands in the areas are document 01's, for all input. A pointer
  * names as many items as the length behind it says; the areas that are written (tokens, report,
