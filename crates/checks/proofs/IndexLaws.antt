@@ -1,4 +1,5 @@
 -- The normalised peek index: a signed number's sign and size, as the machine has them, and what the reading's index makes of them.
+use Rattle.std.specs.Prelude.{if◌then◌else◌}
 use mathlib.Core.Path.{◌≡◌, ap, ◌∙◌}
 use mathlib.Core.Bool.{true, false, true≢false, ◌||◌}
 use mathlib.Core.Option.{Option, none, some}
@@ -14,7 +15,6 @@ use mir.Facts.{to_z-of_z, sfits_widen}
 use borrow.Author.Tests.{ltb-true, lt-ltb, le-ltb, lt-leb, le-leb, eq-eqb, ne_eqb}
 use Rattle.checks.specs.declared.node.Index.{Index}
 use Rattle.checks.specs.declared.node.Index.TheVariants.{At, Outside}
-use Rattle.reading.specs.Ending.{if◌then◌else◌}
 use Rattle.reading.specs.Reading.{index_in, end_in}
 use Rattle.reading.specs.Pest as Pest
 use Rattle.reading.proofs.Matchers.{index_same, end_same}

@@ -1,11 +1,10 @@
 -- An ending as one number, and back (law: `unpacked_packed` of proofs/PackedLaws): 0 is Err, 1 is Ok, and a stop is 4 times its line,
 -- plus 2, plus its cause's number from 0 to 3.
-use Rattle.std.specs.Prelude.{ℕ, ◌+◌, ◌-◌, ◌*◌, ◌/◌, ◌%◌, eqb}
+use Rattle.std.specs.Prelude.{ℕ, ◌+◌, ◌-◌, ◌*◌, ◌/◌, ◌%◌, eqb, if◌then◌else◌}
 use Rattle.reading.specs.declared.parser_state.Cause.{Cause}
 use Rattle.reading.specs.declared.parser_state.Cause.TheVariants.{EmptyStack, TokensFull, StackFull, AttemptsFull}
 use Rattle.reading.specs.declared.parser_state.Ending.{Ending}
 use Rattle.reading.specs.declared.parser_state.Ending.TheVariants.{Ok, Err, Stop}
-use Rattle.reading.specs.Ending.{if◌then◌else◌}
 
 abbrev pub packed : Ending → ℕ
 packed Err = 0

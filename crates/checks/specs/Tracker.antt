@@ -1,5 +1,5 @@
 -- How the code's tracker stands for the reading's, and what an entry makes of it; and for pest's, as engine's state does.
-use Rattle.std.specs.Prelude.{Bool, true, false, ℕ, zero, suc}
+use Rattle.std.specs.Prelude.{Bool, true, false, ℕ, zero, suc, if◌then◌else◌}
 use Rattle.std.proofs.Math.Option.{Option, none, some}
 use Rattle.reading.specs.declared.call_limit_tracker.LimitKind.{LimitKind}
 use Rattle.reading.specs.declared.call_limit_tracker.LimitKind.TheVariants.{Stack}
@@ -8,7 +8,6 @@ use Rattle.checks.specs.declared.call_limit_tracker.LimitReached.TheVariants as 
 use Rattle.checks.specs.declared.call_limit_tracker.CallLimitTracker as Code
 use Rattle.checks.specs.declared.call_limit_tracker.Admitted.{Admitted}
 use Rattle.checks.specs.declared.call_limit_tracker.Admitted.TheVariants.{Yes, No}
-use Rattle.reading.specs.Ending.{if◌then◌else◌}
 use Rattle.reading.specs.Reading.{Tracker, Entry, entered, refused, enter}
 use Rattle.reading.specs.Pest as Pest
 

@@ -1,7 +1,6 @@
 // The fields of node lines: signed numbers. All signed arithmetic of the grammar stands here.
-ghost use Rattle.std.specs.Prelude.{◌≡◌, false, ◌||◌, ◌*◌, ◌≤◌, ◌<◌, eqb, ltb, pos, length, get_or};
+ghost use Rattle.std.specs.Prelude.{◌≡◌, false, ◌||◌, ◌*◌, ◌≤◌, ◌<◌, eqb, ltb, pos, length, get_or, if◌then◌else◌};
 ghost use Rattle.std.proofs.Math.Option.{none, some};
-ghost use Rattle.reading.specs.Ending.{if◌then◌else◌};
 ghost use Rattle.reading.specs.Grammar.{natural, kind_at, row};
 ghost use Rattle.reading.specs.Reading.{index_in, end_in};
 ghost use Rattle.checks.specs.FieldTests.{field_of};

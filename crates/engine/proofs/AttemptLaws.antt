@@ -1,5 +1,6 @@
 -- The attempts: each law is one arm of the code, over the two regions' offsets and the counts. The last part says that these steps
 -- are pest's own, on the state's three fields.
+use Rattle.std.specs.Prelude.{if◌then◌else◌}
 use mathlib.Core.Path.{◌≡◌, refl, sym, ap, ap₂, ◌∙◌}
 use mathlib.Core.Bool.{Bool, true, false, ◌&&◌, not}
 use mathlib.Core.List.{List, [], ◌∷◌, ◌++◌}
@@ -12,7 +13,7 @@ use lib.Dec.{eqb, ltb}
 use borrow.Author.Tests.{eq-eqb, ne_eqb, lt-ltb, le-ltb}
 use Rattle.engine.specs.declared.attempts.Attempts.{Attempts}
 use Rattle.engine.specs.declared.attempts.Noted.{Noted}
-use Rattle.reading.specs.Ending.{if◌then◌else◌, is_negative, is_atomic}
+use Rattle.reading.specs.Ending.{is_negative, is_atomic}
 use Rattle.reading.specs.Reading.{most_attempts}
 use Rattle.reading.specs.Pest as Pest
 use Rattle.reading.specs.Pest.{ParserState}

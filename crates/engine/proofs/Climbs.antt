@@ -1,4 +1,5 @@
 -- The climb from the leftmost line of a spine: what each line makes of its left side's ending is what its own evaluation comes to.
+use Rattle.std.specs.Prelude.{if◌then◌else◌}
 use mathlib.Core.Path.{◌≡◌, refl, sym, ap, subst, ◌∙◌}
 use mathlib.Core.Logic.{inl, inr}
 use mathlib.Core.Bool.{true, false, false≢true}
@@ -15,7 +16,7 @@ use Rattle.engine.specs.Fields as Code
 use Rattle.reading.specs.declared.parser_state.Ending as Coded
 use Rattle.reading.specs.declared.parser_state.Ending.TheVariants as Coded-of
 use Rattle.reading.specs.declared.parser_state.Cause.{Cause}
-use Rattle.reading.specs.Ending.{if◌then◌else◌, Ending, Ok, Err, Stop, on_ok, on_err}
+use Rattle.reading.specs.Ending.{Ending, Ok, Err, Stop, on_ok, on_err}
 use Rattle.reading.specs.Grammar.{Exp, and_then, or_else, natural, node_at, kind_at, line_count, tree_at}
 use Rattle.reading.specs.Pest as Pest
 use Rattle.reading.specs.Pest.{ParserState}

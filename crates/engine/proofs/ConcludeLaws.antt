@@ -1,4 +1,5 @@
 -- How many tokens and rules an answer counts: a queue of n tokens has n, and sorting without duplicates adds none.
+use Rattle.std.specs.Prelude.{if◌then◌else◌}
 use mathlib.Core.Path.{◌≡◌, refl, ap}
 use mathlib.Core.Bool.{Bool, true, false}
 use mathlib.Core.List.{List, [], ◌∷◌}
@@ -6,7 +7,6 @@ use Prim.Native.Nat.{ℕ, suc, ◌≤◌}
 use native.Mathlib.Omega.{arith}
 use lib.ListN.{length}
 use lib.Dec.{eqb, ltb}
-use Rattle.reading.specs.Ending.{if◌then◌else◌}
 use Rattle.reading.specs.Pest.{QueueableToken}
 use Rattle.engine.specs.Areas.{numbers, queue_of}
 use Rattle.reading.specs.Outcome.{insert, ascending, Outcome}

@@ -1,4 +1,5 @@
 -- An ending is known in each arm of a function over it: there the definition computes, and one law says what the arm's state stands for.
+use Rattle.std.specs.Prelude.{if◌then◌else◌}
 use mathlib.Core.Path.{◌≡◌, refl, sym, ap, ◌∙◌}
 use mathlib.Core.Bool.{Bool, true, false, not}
 use mathlib.Core.List.{List}
@@ -16,7 +17,7 @@ use Rattle.reading.specs.declared.parser_state.Atomicity.{Atomicity}
 use Rattle.reading.specs.declared.parser_state.Ending as Declared
 use Rattle.reading.specs.declared.parser_state.Ending.TheVariants as Variants
 use Rattle.engine.specs.Fields as Code
-use Rattle.reading.specs.Ending.{if◌then◌else◌, Ok, Err}
+use Rattle.reading.specs.Ending.{Ok, Err}
 use Rattle.reading.specs.Pest.{ParserState, QueueableToken, set_position, set_queue, set_lookahead, limit_reached, moved}
 use Rattle.engine.specs.Areas.{view, view_end, queue_of}
 use Rattle.engine.specs.StackReady.{StateReady}

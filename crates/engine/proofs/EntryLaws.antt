@@ -1,9 +1,10 @@
 -- The entry of a combinator: what the tracker answers is stored in the state, which then goes on or is refused.
+use Rattle.std.specs.Prelude.{if◌then◌else◌}
 use mathlib.Core.Path.{◌≡◌, refl, ap, ◌∙◌}
 use mathlib.Core.Bool.{Bool, true, false}
 use mathlib.Core.List.{List}
 use Prim.Native.Nat.{ℕ}
-use Rattle.reading.specs.Ending.{if◌then◌else◌, Ending, Err}
+use Rattle.reading.specs.Ending.{Ending, Err}
 use Rattle.reading.specs.Reading.{enter}
 use Rattle.reading.specs.Pest as Pest
 use Rattle.reading.specs.Pest.{ParserState, CallLimitTracker, set_call_tracker, check_limit}

@@ -1,5 +1,6 @@
 -- A leaf's match is its line's evaluation, for every state at its position. A fork whose left side is a leaf then goes on at its right
 -- side or is done, and the evaluation of the line that the walk began with goes along.
+use Rattle.std.specs.Prelude.{if◌then◌else◌}
 use mathlib.Core.Path.{◌≡◌, refl, sym, ap, subst, ◌∙◌}
 use mathlib.Core.Bool.{Bool, true, false, true≢false, false≢true}
 use mathlib.Core.Logic.{inl, inr}
@@ -17,7 +18,7 @@ use Rattle.matching.specs.declared.position.Matched.{Matched}
 use Rattle.matching.specs.declared.position.Matched.TheVariants as Matched-of
 use Rattle.engine.specs.declared.node.Line as Read
 use Rattle.engine.specs.Fields as Code
-use Rattle.reading.specs.Ending.{if◌then◌else◌, Ending, Ok, Err}
+use Rattle.reading.specs.Ending.{Ending, Ok, Err}
 use Rattle.reading.specs.Fit.{Fit}
 use Rattle.reading.specs.Grammar.{node_at, kind_at, tree_at}
 use Rattle.reading.specs.Pest as Pest

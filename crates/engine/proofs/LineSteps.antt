@@ -1,5 +1,6 @@
 -- A line of an accepted grammar as the code reads it: the lines that it names, and the tree that its evaluation is of. One lemma for
 -- each kind; `n` is the line as read.
+use Rattle.std.specs.Prelude.{if◌then◌else◌}
 use mathlib.Core.Path.{◌≡◌, refl, sym, ap, subst, ◌∙◌}
 use mathlib.Core.Bool.{true, false}
 use mathlib.Core.Logic.{◌⊎◌, inl, inr}
@@ -16,7 +17,7 @@ use Rattle.matching.proofs.Lead as Lead
 use Rattle.engine.specs.declared.node.Line as Read
 use Rattle.reading.specs.declared.parser_state.Atomicity.{Atomicity}
 use Rattle.reading.specs.declared.parser_state.Atomicity.TheVariants.{NonAtomic}
-use Rattle.reading.specs.Ending.{if◌then◌else◌, Ending}
+use Rattle.reading.specs.Ending.{Ending}
 use Rattle.reading.specs.Grammar as Grammar
 use Rattle.reading.specs.Grammar.{Exp, node_at, natural, kind_at, tree_at, atomicity_of}
 use Rattle.reading.specs.Nullable.{nullable}

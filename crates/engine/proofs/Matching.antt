@@ -1,4 +1,5 @@
 -- pest's `match_string` is matching's: a string that fits is the same bytes at once or one after another.
+use Rattle.std.specs.Prelude.{if◌then◌else◌}
 use mathlib.Core.Path.{◌≡◌, refl, ap}
 use mathlib.Core.Bool.{Bool, true, false, ◌&&◌, cond}
 use mathlib.Core.List.{List, [], ◌∷◌}
@@ -12,7 +13,6 @@ use borrow.Author.Tests.{le-leb, lt-leb}
 use Rattle.matching.specs.Position.{starts_by, match_by, match_string}
 use Rattle.matching.proofs.Starts.{starts_short}
 use Rattle.reading.specs.Pest as Pest
-use Rattle.reading.specs.Ending.{if◌then◌else◌}
 
 same_starts : (same : ℕ → ℕ → Bool) (l x : List ℕ) → length l ≤ length x → Pest.same_bytes same l (take (length l) x) ≡ starts_by same l x
 same_starts same [] x h = refl

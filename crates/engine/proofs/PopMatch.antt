@@ -1,5 +1,6 @@
 -- Popping and matching, one entry at a time: what the pop answered decides pest's next step, and the answer from there on is the whole
 -- answer.
+use Rattle.std.specs.Prelude.{if◌then◌else◌}
 use mathlib.Core.Path.{◌≡◌, refl, sym, ap, ap₂, ◌∙◌, subst}
 use mathlib.Core.Bool.{Bool, true, false, not}
 use mathlib.Core.List.{List, [], ◌∷◌}
@@ -18,7 +19,7 @@ use Rattle.engine.specs.declared.stack.Stack.{Stack}
 use Rattle.engine.specs.declared.stack.Popped.{Popped}
 use Rattle.engine.specs.declared.stack.Popped.TheVariants.{Got, Empty, Full}
 use Rattle.reading.specs.declared.parser_state.Cause.TheVariants.{StackFull}
-use Rattle.reading.specs.Ending.{if◌then◌else◌, Ending, Ok, Err, Stop, stop_if, Span, Checkpoint}
+use Rattle.reading.specs.Ending.{Ending, Ok, Err, Stop, stop_if, Span, Checkpoint}
 use Rattle.reading.specs.Reading.{debt}
 use Rattle.reading.specs.Pest.{ParserState, set_position, set_stack, pop, as_str, stack_match_pop}
 use Rattle.engine.specs.Areas.{pairs, span, checkpoint, stack_of}

@@ -1,5 +1,6 @@
 -- The leaves of `rule`: each law is one arm of the code, over pest's own state. The last part puts the leaves together again: `rule` is
 -- its start, its body, and its end.
+use Rattle.std.specs.Prelude.{if◌then◌else◌}
 use mathlib.Core.Path.{◌≡◌, refl, sym, ap, ◌∙◌}
 use mathlib.Core.Bool.{Bool, true, false, ◌&&◌, ◌||◌, not}
 use mathlib.Core.List.{List, [], ◌∷◌, ◌++◌}
@@ -18,7 +19,7 @@ use Rattle.engine.specs.declared.attempts.Noted.{Noted}
 use Rattle.engine.specs.declared.attempts.Attempts.{Attempts}
 use Rattle.engine.specs.declared.stack.Stack.{Stack}
 use Rattle.engine.specs.Fields as Declared
-use Rattle.reading.specs.Ending.{if◌then◌else◌, Ending, Ok, Stop, on_ok, stop_if, is_negative, is_none, is_atomic}
+use Rattle.reading.specs.Ending.{Ending, Ok, Stop, on_ok, stop_if, is_negative, is_none, is_atomic}
 use Rattle.reading.specs.Reading.{Setting, most_attempts}
 use Rattle.reading.specs.Pest as Pest
 use Rattle.reading.specs.Pest.{ParserState, QueueableToken, Start, End, produces, with_end, set_queue, push_token, tracking, close_rule, tag_last, tag_node}

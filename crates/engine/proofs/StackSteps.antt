@@ -1,5 +1,6 @@
 -- What each function of the stack does, over the numbers of scratch: a region is a list of pairs, the last one first, so that to write
 -- after the last pair is `∷`, and the other regions lie outside of what is written.
+use Rattle.std.specs.Prelude.{if◌then◌else◌}
 use mathlib.Core.Path.{◌≡◌, refl, sym, ap, ap₂, ◌∙◌}
 use mathlib.Core.List.{List, [], ◌∷◌, ◌++◌, reverse}
 use Prim.Native.Nat.{ℕ, suc, ◌+◌, ◌*◌, ◌-◌, ◌≤◌, ◌<◌, min}
@@ -12,7 +13,7 @@ use Rattle.matching.specs.declared.span.Span as Code
 use Rattle.reading.specs.Pest as Pest
 use Rattle.engine.specs.declared.areas.Pair.{Pair}
 use Rattle.engine.specs.declared.stack.Stack.{Stack}
-use Rattle.reading.specs.Ending.{if◌then◌else◌, Span, Checkpoint}
+use Rattle.reading.specs.Ending.{Span, Checkpoint}
 use Rattle.reading.specs.Reading.{debt}
 use Rattle.reading.specs.Pest.{snapshot, clear_snapshot, restore, truncate}
 use Rattle.engine.specs.Areas.{pairs, span, checkpoint, stack_of, Outside}

@@ -1,4 +1,5 @@
 -- A store to one number of a state changes the field that it stands for and no other: the numbers are taken as a function of the index.
+use Rattle.std.specs.Prelude.{if◌then◌else◌}
 use mathlib.Core.Path.{◌≡◌, refl, ap, fun_ext, ◌∙◌}
 use mathlib.Core.Bool.{Bool, true, false}
 use mathlib.Core.List.{List}
@@ -16,7 +17,6 @@ use Rattle.checks.specs.declared.call_limit_tracker.LimitReached.{LimitReached}
 use Rattle.checks.specs.declared.call_limit_tracker.CallLimitTracker.{CallLimitTracker}
 use Rattle.engine.specs.declared.attempts.Attempts.{Attempts}
 use Rattle.engine.specs.declared.stack.Stack.{Stack}
-use Rattle.reading.specs.Ending.{if◌then◌else◌}
 use Rattle.engine.specs.Fields as Fields
 use Rattle.engine.specs.Fields.{state_size, fields, state_from, lookahead_of, atomicity_of, reached_of}
 

@@ -1,5 +1,6 @@
 -- A state whose stack was changed in scratch: the rest of what the state stands for is as it was, so that each combinator over the stack
 -- comes down to what the stack's function answered.
+use Rattle.std.specs.Prelude.{if◌then◌else◌}
 use mathlib.Core.Path.{◌≡◌, refl, sym, ap, ap₂, ◌∙◌}
 use mathlib.Core.Bool.{Bool, true, false, cond, ◌||◌}
 use mathlib.Core.List.{List, [], ◌∷◌}
@@ -25,7 +26,7 @@ use Rattle.engine.specs.declared.stack_match.MatchPopped.{MatchPopped}
 use Rattle.engine.specs.Fields as Fields
 use Rattle.engine.specs.Fields.{ParserState}
 use Rattle.reading.specs.declared.parser_state.Cause.TheVariants.{EmptyStack, StackFull}
-use Rattle.reading.specs.Ending.{if◌then◌else◌, Ending, Ok, Err, Stop, stop_if, Span}
+use Rattle.reading.specs.Ending.{Ending, Ok, Err, Stop, stop_if, Span}
 use Rattle.reading.specs.Reading.{debt}
 use Rattle.reading.specs.Pest.{set_position, set_stack, push, pop, as_str, moved, stack_pop, stack_match_pop, stack_match_peek_slice, normalize_index, normalize_end, slice, all_match}
 use Rattle.engine.specs.Areas.{span, stack_of, view, view_end}

@@ -1,5 +1,6 @@
 -- One step of the evaluation at a time: an entry that is refused or open, what is ready for the body, and what its ending is ready for.
 -- Each member of the cycle cites these; what differs between them is the tree and what the combinator makes of an ending.
+use Rattle.std.specs.Prelude.{if◌then◌else◌}
 use mathlib.Core.Path.{◌≡◌, refl, sym, ap, ap₂, subst, ◌∙◌}
 use mathlib.Core.Bool.{Bool, true, false, ◌&&◌, not, true≢false, false≢true}
 use mathlib.Core.List.{List, [], ◌∷◌, ◌++◌}
@@ -21,7 +22,7 @@ use Rattle.engine.specs.Fields as Code
 use Rattle.engine.specs.Fields.{state_size}
 use Rattle.reading.specs.declared.parser_state.Ending as Coded
 use Rattle.reading.specs.declared.parser_state.Ending.TheVariants as Coded-of
-use Rattle.reading.specs.Ending.{if◌then◌else◌, Ending, Ok, Err, Stop, on_ok, stop_if}
+use Rattle.reading.specs.Ending.{Ending, Ok, Err, Stop, on_ok, stop_if}
 use Rattle.reading.specs.Grammar as Grammar
 use Rattle.reading.specs.Grammar.{Exp, tree_at}
 use Rattle.reading.specs.Nullable.{nullable}

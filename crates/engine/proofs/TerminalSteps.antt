@@ -1,5 +1,6 @@
 -- The lines that open no call and are no fork: what the code's leaf answers for a line's kind is what pest's evaluation makes of the
 -- line's tree, at any depth.
+use Rattle.std.specs.Prelude.{if◌then◌else◌}
 use mathlib.Core.Path.{◌≡◌, refl, sym, ap, ap₂, subst, ◌∙◌}
 use mathlib.Core.Bool.{Bool, true, false, ◌||◌, true≢false}
 use mathlib.Core.Logic.{◌⊎◌, inl, inr}
@@ -15,7 +16,7 @@ use Rattle.matching.specs.Position as Position
 use Rattle.matching.proofs.Lead.{within_is}
 use Rattle.engine.specs.declared.node.Line as Read
 use Rattle.engine.specs.declared.node.Ends.{Ends}
-use Rattle.reading.specs.Ending.{if◌then◌else◌, Ending, Ok, Err}
+use Rattle.reading.specs.Ending.{Ending, Ok, Err}
 use Rattle.reading.specs.Grammar as Grammar
 use Rattle.reading.specs.Grammar.{Exp, node_at, kind_at, tree_at}
 use Rattle.reading.specs.Reading.{Setting}

@@ -1,5 +1,6 @@
 -- Tokens in an area: a write inside one token changes that token of the queue and no other. So a push, a partner and a tag are each
 -- one case of a single law over the token's five numbers.
+use Rattle.std.specs.Prelude.{if◌then◌else◌}
 use mathlib.Core.Path.{◌≡◌, refl, sym, ap, ap₂, ◌∙◌, subst}
 use mathlib.Core.List.{List, [], ◌∷◌, ◌++◌, append_assoc}
 use Prim.Native.Nat.{ℕ, zero, suc, ◌+◌, ◌*◌, ◌-◌, ◌≤◌, ◌<◌}
@@ -10,7 +11,6 @@ use lib.ListN.{length, get_or, take, set, length-append, length-set, get_or-appe
 use lib.Seq.{get_or-set_same, get_or-set_other, take-append-le, take_all, take-suc, set-append_left, set_out, set_at, get_or_at, set-get_or}
 use lib.Dec.{eqb}
 use borrow.Author.Tests.{eq-eqb, ne_eqb}
-use Rattle.reading.specs.Ending.{if◌then◌else◌}
 use Rattle.reading.specs.Forest.{Token}
 use Rattle.reading.specs.Pest.{QueueableToken, Start, End, with_end, tag_last}
 use Rattle.engine.specs.Areas.{Outside, token_at, queue_of}

@@ -1,5 +1,6 @@
 -- The two loops of a line's evaluation as records: the outer one walks by right sides, each answering for the line that it began with;
 -- the inner one climbs a spine (Climbs has its equations) and keeps the state fit for the next right side.
+use Rattle.std.specs.Prelude.{if◌then◌else◌}
 use mathlib.Core.Path.{◌≡◌, refl, sym, ap, subst, ◌∙◌}
 use mathlib.Core.Bool.{Bool, true, false}
 use mathlib.Core.Logic.{inl, inr}
@@ -13,7 +14,7 @@ use lib.IntN.{ℤ}
 use lib.ListN.{length}
 use Rattle.engine.specs.declared.node.Line as Read
 use Rattle.engine.specs.declared.spine.Spine.{Spine}
-use Rattle.reading.specs.Ending.{if◌then◌else◌, Ending, Ok, Err, Stop}
+use Rattle.reading.specs.Ending.{Ending, Ok, Err, Stop}
 use Rattle.reading.specs.Grammar.{node_at, kind_at, line_count, tree_at}
 use Rattle.reading.specs.Reading.{Setting}
 use Rattle.reading.specs.Pest.{ParserState}

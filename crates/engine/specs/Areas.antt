@@ -1,11 +1,11 @@
 -- How the lent areas and the code's structs stand for pest's own state: the abstraction functions that contracts cite.
-use Rattle.std.specs.Prelude.{◌≡◌, List, [], ◌∷◌, ◌++◌, ℕ, zero, suc, ◌+◌, ◌*◌, ◌≤◌, ◌<◌, length, get_or, eqb}
+use Rattle.std.specs.Prelude.{◌≡◌, List, [], ◌∷◌, ◌++◌, ℕ, zero, suc, ◌+◌, ◌*◌, ◌≤◌, ◌<◌, length, get_or, eqb, if◌then◌else◌}
 use Rattle.engine.specs.declared.stack.Stack.{Stack}
 use Rattle.reading.specs.declared.parser_state.Ending.{Ending}
 use Rattle.reading.specs.declared.parser_state.Ending.TheVariants as Code
 use Rattle.engine.specs.Fields.{ParserState}
 use Rattle.reading.specs.Ending as Model
-use Rattle.reading.specs.Ending.{if◌then◌else◌, Span, Checkpoint}
+use Rattle.reading.specs.Ending.{Span, Checkpoint}
 use Rattle.reading.specs.Pest as Pest
 use Rattle.reading.specs.Pest.{QueueableToken, Start, End}
 use Rattle.checks.specs.Tracker.{tracker_of}

@@ -1,10 +1,9 @@
 -- pest's attempts by themselves: what `rule` notes of them and what `track` makes of them, and how a scratch area stands for them.
-use Rattle.std.specs.Prelude.{Bool, ◌&&◌, ◌||◌, not, List, [], ◌∷◌, ◌++◌, ℕ, ◌+◌, ◌-◌, ◌≤◌, length, take, eqb, ltb}
+use Rattle.std.specs.Prelude.{Bool, ◌&&◌, ◌||◌, not, List, [], ◌∷◌, ◌++◌, ℕ, ◌+◌, ◌-◌, ◌≤◌, length, take, eqb, ltb, if◌then◌else◌}
 use Rattle.engine.specs.declared.attempts.Attempts.{Attempts}
 use Rattle.engine.specs.declared.attempts.Noted.{Noted}
 use Rattle.engine.specs.declared.attempts.Tracked as Code
 use Rattle.engine.specs.declared.attempts.Tracked.TheVariants.{Kept, Full}
-use Rattle.reading.specs.Ending.{if◌then◌else◌}
 use Rattle.reading.specs.Reading.{most_attempts}
 use Rattle.reading.specs.Pest.{ParserState, set_attempts}
 use Rattle.engine.specs.Areas.{numbers, positives_at, negatives_at, scratch_size}

@@ -1,9 +1,9 @@
 -- pest's stack within document 01's capacity, "128 entries, total debt 1,024": what pushing and popping answer, and how the code's
 -- answers stand for it.
-use Rattle.std.specs.Prelude.{List, [], ◌∷◌, ℕ, length, leb, ltb}
+use Rattle.std.specs.Prelude.{List, [], ◌∷◌, ℕ, length, leb, ltb, if◌then◌else◌}
 use Rattle.engine.specs.declared.stack.Pushed.{Pushed}
 use Rattle.engine.specs.declared.stack.Popped.{Popped}
-use Rattle.reading.specs.Ending.{if◌then◌else◌, Span}
+use Rattle.reading.specs.Ending.{Span}
 use Rattle.reading.specs.Reading.{most_entries, most_debt, debt}
 use Rattle.reading.specs.Pest as Pest
 use Rattle.engine.specs.Areas.{span, stack_of}

@@ -1,11 +1,11 @@
 -- What the functions over an ending ask of it, and the two that say it more shortly than pest.
-use Rattle.std.specs.Prelude.{Bool, List, ℕ, ◌≤◌}
+use Rattle.std.specs.Prelude.{Bool, List, ℕ, ◌≤◌, if◌then◌else◌}
 use Rattle.matching.specs.declared.position.BytePosition.{BytePosition}
 use Rattle.reading.specs.declared.parser_state.Atomicity.{Atomicity}
 use Rattle.reading.specs.declared.parser_state.Ending as Declared
 use Rattle.reading.specs.declared.parser_state.Ending.TheVariants as Code
 use Rattle.engine.specs.Fields as State
-use Rattle.reading.specs.Ending.{if◌then◌else◌, Ending, Ok, Err, Stop}
+use Rattle.reading.specs.Ending.{Ending, Ok, Err, Stop}
 use Rattle.reading.specs.Pest.{ParserState, set_atomicity, limit_reached}
 use Rattle.engine.specs.StackReady.{StateReady, PushReady}
 use Rattle.engine.specs.Rule.{Recording, Tracking}

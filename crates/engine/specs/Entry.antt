@@ -1,6 +1,6 @@
 -- What an entry answers, as the state that goes on or is refused.
-use Rattle.std.specs.Prelude.{Bool, true, false}
-use Rattle.reading.specs.Ending.{if◌then◌else◌, Ending, Err}
+use Rattle.std.specs.Prelude.{Bool, true, false, if◌then◌else◌}
+use Rattle.reading.specs.Ending.{Ending, Err}
 use Rattle.reading.specs.Pest.{ParserState, Entered, enter, set_call_tracker}
 
 -- The state that goes on, or the one that a refused entry answers with Err.

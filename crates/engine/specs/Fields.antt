@@ -1,6 +1,6 @@
 -- pest's `ParserState` as the code holds it: its fields, and how the numbers of one lent area stand for them. Where pest has a Vec, the
 -- field counts what stands in an area (Areas).
-use Rattle.std.specs.Prelude.{List, ℕ, get_or, eqb}
+use Rattle.std.specs.Prelude.{List, ℕ, get_or, eqb, if◌then◌else◌}
 use Rattle.matching.specs.declared.position.BytePosition.{BytePosition}
 use Rattle.matching.specs.declared.position.TokenIndex.{TokenIndex}
 use Rattle.reading.specs.declared.parser_state.Lookahead.{Lookahead}
@@ -13,7 +13,6 @@ use Rattle.checks.specs.declared.call_limit_tracker.LimitReached.TheVariants.{No
 use Rattle.checks.specs.declared.call_limit_tracker.CallLimitTracker.{CallLimitTracker}
 use Rattle.engine.specs.declared.attempts.Attempts.{Attempts}
 use Rattle.engine.specs.declared.stack.Stack.{Stack}
-use Rattle.reading.specs.Ending.{if◌then◌else◌}
 
 pub record ParserState : Type 0 where
   pub position : BytePosition

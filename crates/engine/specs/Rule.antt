@@ -1,6 +1,6 @@
 -- The leaves of `rule`: the part before its body, and what the code needs of the areas.
-use Rattle.std.specs.Prelude.{true, false, List, ℕ, ◌*◌, ◌≤◌, length, take}
-use Rattle.reading.specs.Ending.{if◌then◌else◌, Ending, Ok}
+use Rattle.std.specs.Prelude.{true, false, List, ℕ, ◌*◌, ◌≤◌, length, take, if◌then◌else◌}
+use Rattle.reading.specs.Ending.{Ending, Ok}
 use Rattle.reading.specs.Reading.{Setting, most_entries, most_debt}
 use Rattle.reading.specs.Pest.{ParserState, Start, produces, push_token, set_queue}
 use Rattle.engine.specs.Fields as State

@@ -1,9 +1,8 @@
 -- Left sides of kinds 6 and 7, one below the other: how the evaluation goes down them without opening a call.
-use Rattle.std.specs.Prelude.{◌≡◌, Bool, true, false, ◌||◌, ◌⊎◌, List, ℕ, zero, suc, ◌*◌, ◌≤◌, ◌<◌, ℤ, length, eqb}
+use Rattle.std.specs.Prelude.{◌≡◌, Bool, true, false, ◌||◌, ◌⊎◌, List, ℕ, zero, suc, ◌*◌, ◌≤◌, ◌<◌, ℤ, length, eqb, if◌then◌else◌}
 use Rattle.engine.specs.declared.spine.Spine.{Spine}
 use Rattle.reading.specs.declared.parser_state.Ending.{Ending}
 use Rattle.reading.specs.declared.parser_state.Ending.TheVariants.{Ok, Err, Stop}
-use Rattle.reading.specs.Ending.{if◌then◌else◌}
 use Rattle.reading.specs.Grammar.{natural, node_at, kind_at, line_count}
 
 abbrev pub left_of : List ℤ → (line : ℕ) → ℕ

@@ -1,11 +1,11 @@
 -- Entries from the bottom, the direction of a slice, and what popping and matching answers.
-use Rattle.std.specs.Prelude.{Bool, List, ℕ, ◌+◌, ◌*◌, ◌-◌, get_or}
+use Rattle.std.specs.Prelude.{Bool, List, ℕ, ◌+◌, ◌*◌, ◌-◌, get_or, if◌then◌else◌}
 use Rattle.std.proofs.Math.Option.{Option, none, some}
 use Rattle.matching.specs.declared.position.Matched.{Matched}
 use Rattle.engine.specs.declared.stack_match.Next.{Next}
 use Rattle.engine.specs.declared.stack_match.MatchPopped.{MatchPopped}
 use Rattle.reading.specs.declared.parser_state.Cause.TheVariants.{StackFull}
-use Rattle.reading.specs.Ending.{if◌then◌else◌, Ending, Ok, Err, Stop, Span}
+use Rattle.reading.specs.Ending.{Ending, Ok, Err, Stop, Span}
 use Rattle.reading.specs.Pest.{ParserState, set_position, set_stack}
 use Rattle.engine.specs.Areas.{entries_at, span, stack_of}
 

@@ -1,6 +1,5 @@
 // pest's combinators over node lines.
-ghost use Rattle.std.specs.Prelude.{◌≡◌, true, false, ◌≤◌, length, eqb};
-ghost use Rattle.reading.specs.Ending.{if◌then◌else◌};
+ghost use Rattle.std.specs.Prelude.{◌≡◌, true, false, ◌≤◌, length, eqb, if◌then◌else◌};
 ghost use Rattle.reading.specs.Grammar.{kind_at, tree_at, atomicity_of};
 ghost use Rattle.reading.specs.Pest as Pest;
 ghost use Rattle.engine.specs.Fields.{state_size, fields};

@@ -1,7 +1,7 @@
 // The leaves of `rule` and `tag_node`: what they do to the state before and after the body is evaluated.
-ghost use Rattle.std.specs.Prelude.{◌≡◌, true, List, ℕ, ◌+◌, ◌-◌, ◌*◌, ◌≤◌, length};
+ghost use Rattle.std.specs.Prelude.{◌≡◌, true, List, ℕ, ◌+◌, ◌-◌, ◌*◌, ◌≤◌, length, if◌then◌else◌};
 ghost use Rattle.reading.specs.Ending as Model;
-ghost use Rattle.reading.specs.Ending.{if◌then◌else◌, is_negative, is_none, is_atomic};
+ghost use Rattle.reading.specs.Ending.{is_negative, is_none, is_atomic};
 ghost use Rattle.reading.specs.Reading.{Setting};
 ghost use Rattle.reading.specs.Pest as Pest;
 ghost use Rattle.engine.specs.Fields.{state_size, fields};

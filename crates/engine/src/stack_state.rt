@@ -1,7 +1,7 @@
 // The combinators of pest's parser_state.rs over the state's stack: checkpoints, and document 01's kinds 14 to 17.
-ghost use Rattle.std.specs.Prelude.{◌≡◌, true, ◌||◌, List, ℕ, ◌≤◌, ◌<◌, eqb, ltb, length};
+ghost use Rattle.std.specs.Prelude.{◌≡◌, true, ◌||◌, List, ℕ, ◌≤◌, ◌<◌, eqb, ltb, length, if◌then◌else◌};
 ghost use Rattle.std.proofs.Math.Option.{none, some};
-ghost use Rattle.reading.specs.Ending.{if◌then◌else◌, Ok};
+ghost use Rattle.reading.specs.Ending.{Ok};
 ghost use Rattle.reading.specs.Pest.{checkpoint, checkpoint_ok, restored, moved, push_end, stack_pop, stack_match_peek_slice, stack_match_pop};
 ghost use Rattle.engine.specs.Fields.{state_size, fields};
 ghost use Rattle.engine.specs.Areas.{stack_of, view, view_end};

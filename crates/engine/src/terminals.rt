@@ -1,8 +1,7 @@
 // The terminals of a grammar that are not the matching crate's own: document 01's kinds 1, 2 and 5.
-ghost use Rattle.std.specs.Prelude.{◌≡◌, ◌+◌, ◌≤◌, length, take, drop};
+ghost use Rattle.std.specs.Prelude.{◌≡◌, ◌+◌, ◌≤◌, length, take, drop, if◌then◌else◌};
 ghost use Rattle.std.proofs.Math.Option.{none, some};
 ghost use Rattle.matching.specs.Position as Position;
-ghost use Rattle.reading.specs.Ending.{if◌then◌else◌};
 ghost use Rattle.reading.specs.Pest as Pest;
 ghost use Rattle.engine.specs.StackMatch.{match_of};
 

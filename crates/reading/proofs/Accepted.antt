@@ -1,5 +1,6 @@
 -- What the tests 5 and 6 give once they are passed: each line fits the table, unpacked by kind, and each line's tree is its kind's over
 -- the trees of the lines that it names. What is said of a kind is said once, in a list of twenty rows, and taken at the line's kind.
+use Rattle.std.specs.Prelude.{if◌then◌else◌}
 use mathlib.Core.Path.{◌≡◌, refl, sym, ap, ap₂, ◌∙◌, subst}
 use mathlib.Core.Bool.{Bool, true, false, ◌&&◌, ◌||◌, not, true≢false}
 use mathlib.Core.List.{List, [], ◌∷◌}
@@ -16,7 +17,6 @@ use borrow.Author.Tests.{leb-true, eqb-true, eq-eqb, not-false}
 use Rattle.matching.specs.Utf8.{within, Utf8, is_utf8}
 use Rattle.matching.proofs.Lead.{and_left, and_right, within_true, within_is}
 use Rattle.matching.proofs.Characters.{is_utf8_iff}
-use Rattle.reading.specs.Ending.{if◌then◌else◌}
 use Rattle.reading.specs.Grammar.{Node, node_at, natural, kind_at, line_count, row, first_line, between, nil, scalar, count, name, edge, literal_part, called, field_rows, fields_fit, line_fits, misfit, Exp, match_string, match_insensitive, match_range, skip, end_of_input, and_then, or_else, rule, sequence, repeat, optional, lookahead, atomic, stack_push, stack_pop, stack_match_pop, restore_on_err, tag_node, call, atomicity_of, peek_slice, tree_of, trees, tree_at, rule_at, plain_line, plain}
 use Rattle.reading.specs.Nullable.{still_rows, stands_still, nullable, still_repeat}
 use Rattle.reading.specs.Outcome.{Input, Refusal, refuse, unless, good_text, first_of, tests, refusal}

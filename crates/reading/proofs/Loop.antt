@@ -1,5 +1,6 @@
 -- A repeat's rounds are those of a loop without a bound: each round that is Ok comes nearer to the end of the text, so the fuel is
 -- never used up. One law for any rounds over any state, for pest's repeat and for the reading's.
+use Rattle.std.specs.Prelude.{if◌then◌else◌}
 use mathlib.Core.Path.{◌≡◌, refl, ap, subst}
 use mathlib.Core.Bool.{Bool, true, false}
 use mathlib.Core.List.{List}
@@ -7,7 +8,7 @@ use Prim.Native.Nat.{ℕ, zero, suc, ◌-◌, ◌<◌}
 use native.Mathlib.Omega.{arith}
 use lib.ListN.{length}
 use Rattle.reading.specs.declared.parser_state.Cause.{Cause}
-use Rattle.reading.specs.Ending.{if◌then◌else◌, Ending, Ok, Err, Stop, Loops, loops_ok, loops_err, loops_stop}
+use Rattle.reading.specs.Ending.{Ending, Ok, Err, Stop, Loops, loops_ok, loops_err, loops_stop}
 use Rattle.reading.specs.Grammar.{Exp}
 use Rattle.reading.specs.Reading as Reading
 use Rattle.reading.specs.Reading.{Setting, State, most_rounds}

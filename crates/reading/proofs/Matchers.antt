@@ -1,5 +1,6 @@
 -- pest's own matchers (position.rs) answer what document 01's do, at a character edge of valid text: `slice.get(0..len)` asks for an
 -- edge, which stands there where the bytes match.
+use Rattle.std.specs.Prelude.{if◌then◌else◌}
 use mathlib.Core.Path.{◌≡◌, refl, sym, ap, ◌∙◌, subst}
 use mathlib.Core.Bool.{Bool, true, false, ◌&&◌, cond}
 use mathlib.Core.List.{List, [], ◌∷◌}
@@ -18,7 +19,7 @@ use Rattle.matching.specs.Position.{starts_by, same_folded, match_by, match_char
 use Rattle.matching.proofs.Forward.{starts_length, Found, found, char_forward}
 use Rattle.matching.proofs.Edges.{edge_after, folded_keeps}
 use Rattle.matching.proofs.Boundary.{edge_boundary}
-use Rattle.reading.specs.Ending.{if◌then◌else◌, Span}
+use Rattle.reading.specs.Ending.{Span}
 use Rattle.reading.specs.Reading as Reading
 use Rattle.reading.specs.Pest as Pest
 

@@ -1,6 +1,7 @@
 -- No loop of pest's uses up its rounds, in any run of an accepted grammar, also in one that document 01 stops: whatever two loops answer
 -- to rounds that are used up, both evaluations end alike. One pass over pest with no bounds: the position goes on from edge to edge, and a
 -- tree that may not stand still moves on Ok, so each round comes nearer to the end of the text.
+use Rattle.std.specs.Prelude.{if◌then◌else◌}
 use mathlib.Core.Path.{◌≡◌, refl, subst}
 use mathlib.Core.Bool.{Bool, true, false, ◌&&◌, ◌||◌, not}
 use mathlib.Core.Logic.{◌⊎◌, inl, inr}
@@ -17,7 +18,7 @@ use Rattle.matching.proofs.Forward.{Found, found, string_forward, char_forward, 
 use Rattle.matching.proofs.Edges.{Lands, lands_not, lands, string_lands, char_lands, skip_lands, span_whole, eqb_keeps, folded_keeps}
 use Rattle.reading.specs.declared.parser_state.Atomicity.{Atomicity}
 use Rattle.reading.specs.declared.parser_state.Cause.{Cause}
-use Rattle.reading.specs.Ending.{if◌then◌else◌, Ending, Ok, Err, Stop, on_ok, on_err, Span, is_negative, is_none, is_atomic}
+use Rattle.reading.specs.Ending.{Ending, Ok, Err, Stop, on_ok, on_err, Span, is_negative, is_none, is_atomic}
 use Rattle.reading.specs.Grammar as Grammar
 use Rattle.reading.specs.Grammar.{Exp, RuleLine}
 use Rattle.reading.specs.Reading.{Setting, most_rounds}

@@ -1,4 +1,5 @@
 -- What holds of every stack of a run is kept by each of pest's operations.
+use Rattle.std.specs.Prelude.{if◌then◌else◌}
 use mathlib.Core.Path.{◌≡◌, refl, ◌∙◌}
 use mathlib.Core.Bool.{Bool, true, false}
 use mathlib.Core.List.{List, [], ◌∷◌, ◌++◌, reverse}
@@ -9,7 +10,7 @@ use lib.ListN.{length, take, length-append, length-take, length-drop, length-rev
 use lib.Dec.{eqb, ltb}
 use borrow.Author.Tests.{eqb-true, eqb-false, lt-ltb, le-ltb}
 use Rattle.reading.specs.Pest as Pest
-use Rattle.reading.specs.Ending.{if◌then◌else◌, Span, Checkpoint}
+use Rattle.reading.specs.Ending.{Span, Checkpoint}
 use Rattle.reading.specs.Reading.{debt}
 use Rattle.reading.specs.Pest.{push, pop, snapshot, clear_snapshot, restore, truncate}
 use Rattle.reading.specs.Sound.{Fits, fits_none, fits_one, Sound}

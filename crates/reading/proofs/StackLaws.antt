@@ -1,4 +1,5 @@
 -- pest's stack (cache, popped, lengths) stands for a list and the lists saved by the open checkpoints.
+use Rattle.std.specs.Prelude.{if◌then◌else◌}
 use mathlib.Core.Path.{◌≡◌, refl, sym, ap, ap₂, ◌∙◌}
 use mathlib.Core.List.{List, [], ◌∷◌, ◌++◌, reverse, append_assoc, reverse-append, reverse-reverse}
 use Prim.Native.Nat.{ℕ, suc, ◌+◌, ◌-◌, ◌≤◌, min}
@@ -7,7 +8,7 @@ use lib.ListN.{length, take, drop, length-append, length-reverse}
 use lib.Seq.{take_at, drop_at}
 use lib.Dec.{ltb}
 use borrow.Author.Tests.{eq-eqb, ne_eqb, lt-ltb, le-ltb}
-use Rattle.reading.specs.Ending.{if◌then◌else◌, Span, Checkpoint}
+use Rattle.reading.specs.Ending.{Span, Checkpoint}
 use Rattle.reading.specs.Reading.{lower_to, dropped, outer_checkpoints, debt}
 use Rattle.reading.specs.Pest.{Stack, pop, clear_snapshot, restore, truncate}
 

@@ -1,16 +1,11 @@
--- How an evaluation ends, and the small words that the reading and pest's own state share.
-use Rattle.std.specs.Prelude.{◌≡◌, Bool, true, false, ℕ}
+-- How an evaluation ends, and the small words that the reading and pest's own state share. `if` is for data: both branches are computed. A
+-- branch that evaluates a node is an `elim`.
+use Rattle.std.specs.Prelude.{◌≡◌, Bool, true, false, ℕ, if◌then◌else◌}
 use Rattle.reading.specs.declared.parser_state.Lookahead.{Lookahead}
 use Rattle.reading.specs.declared.parser_state.Lookahead.TheVariants.{Positive, Negative, None}
 use Rattle.reading.specs.declared.parser_state.Atomicity.{Atomicity}
 use Rattle.reading.specs.declared.parser_state.Atomicity.TheVariants.{Atomic, CompoundAtomic, NonAtomic}
 use Rattle.reading.specs.declared.parser_state.Cause.{Cause}
-
-infix 10 if◌then◌else◌
--- For data only: both branches are computed. A branch that evaluates a node is an `elim`.
-abbrev pub if◌then◌else◌ {ℓ} : {A : Type ℓ} → Bool → A → A → A
-if true then x else y = x
-if false then x else y = y
 
 -- "Evaluation ends Ok, Err, or in a stop that names its cause; a stop ends the run", over the state that it threads.
 pub data Ending (S : Type 0) : Type 0 where

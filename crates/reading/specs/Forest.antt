@@ -1,6 +1,5 @@
 -- Pairs, forests and their tokens. Document 01, "Tokens are five unsigned 32-bit numbers".
-use Rattle.std.specs.Prelude.{List, [], ◌∷◌, ◌++◌, ℕ, suc, ◌+◌, leb}
-use Rattle.reading.specs.Ending.{if◌then◌else◌}
+use Rattle.std.specs.Prelude.{List, [], ◌∷◌, ◌++◌, ℕ, suc, ◌+◌, leb, if◌then◌else◌}
 
 -- The pairs that stand side by side, the last one outermost. Tag 0 means none.
 pub data Forest : Type 0 where

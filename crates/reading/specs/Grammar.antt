@@ -1,10 +1,9 @@
 -- Grammars as node lines: the table of kinds, and the tree that a line stands for. Document 01, "Nodes".
-use Rattle.std.specs.Prelude.{Bool, true, false, ◌&&◌, ◌||◌, not, List, [], ◌∷◌, ◌++◌, ℕ, zero, suc, ◌+◌, ◌-◌, ◌*◌, ◌/◌, ℤ, pos, negsuc, length, get_or, take, drop, eqb, leb, ltb}
+use Rattle.std.specs.Prelude.{Bool, true, false, ◌&&◌, ◌||◌, not, List, [], ◌∷◌, ◌++◌, ℕ, zero, suc, ◌+◌, ◌-◌, ◌*◌, ◌/◌, ℤ, pos, negsuc, length, get_or, take, drop, eqb, leb, ltb, if◌then◌else◌}
 use Rattle.std.proofs.Math.Option.{Option, none, some}
 use Rattle.matching.specs.Utf8.{within, is_utf8}
 use Rattle.reading.specs.declared.parser_state.Atomicity.{Atomicity}
 use Rattle.reading.specs.declared.parser_state.Atomicity.TheVariants.{Atomic, CompoundAtomic, NonAtomic}
-use Rattle.reading.specs.Ending.{if◌then◌else◌}
 
 -- ── Lines ──
 -- "Each is kind, a, b, c as signed 32-bit numbers"

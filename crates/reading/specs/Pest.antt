@@ -8,7 +8,7 @@
 -- `same_folded`, `bytes_of`. Of Grammar: which tree a line stands for, and `rule_at`. Of Ending: `on_ok` and `on_err` (kinds 6 and 7),
 -- `is_none`, `is_negative`, `is_atomic`. Of Reading: `is_set`. Shared too, but no part of pest: the stops (`stop_if`, `debt`, the bounds)
 -- and the number of rounds that a loop is given (`most_rounds`; see `loop`).
-use Rattle.std.specs.Prelude.{Bool, true, false, ◌&&◌, ◌||◌, not, List, [], ◌∷◌, ◌++◌, reverse, ℕ, zero, suc, ◌+◌, ◌-◌, min, ℤ, pos, negsuc, ◌+ℤ◌, length, get_or, take, drop, set, eqb, ltb, leb}
+use Rattle.std.specs.Prelude.{Bool, true, false, ◌&&◌, ◌||◌, not, List, [], ◌∷◌, ◌++◌, reverse, ℕ, zero, suc, ◌+◌, ◌-◌, min, ℤ, pos, negsuc, ◌+ℤ◌, length, get_or, take, drop, set, eqb, ltb, leb, if◌then◌else◌}
 use Rattle.std.proofs.Math.Option.{Option, none, some}
 use Rattle.std.specs.Int.Signed.{lt_z, non_neg}
 use Rattle.matching.specs.Utf8.{decode, within}
@@ -19,7 +19,7 @@ use Rattle.reading.specs.declared.parser_state.Atomicity.{Atomicity}
 use Rattle.reading.specs.declared.parser_state.Atomicity.TheVariants.{Atomic, CompoundAtomic, NonAtomic}
 use Rattle.reading.specs.declared.parser_state.Cause.TheVariants.{EmptyStack, TokensFull, StackFull, AttemptsFull}
 use Rattle.reading.specs.declared.call_limit_tracker.LimitKind.{LimitKind}
-use Rattle.reading.specs.Ending.{if◌then◌else◌, Ending, Ok, Err, Stop, on_ok, on_err, stop_if, Span, Checkpoint, is_negative, is_none, is_atomic}
+use Rattle.reading.specs.Ending.{Ending, Ok, Err, Stop, on_ok, on_err, stop_if, Span, Checkpoint, is_negative, is_none, is_atomic}
 use Rattle.reading.specs.Grammar as Grammar
 use Rattle.reading.specs.Grammar.{Exp, RuleLine}
 use Rattle.reading.specs.Reading.{Setting, most_entries, most_debt, most_attempts, most_rounds, debt, is_set}

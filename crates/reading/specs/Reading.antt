@@ -1,6 +1,6 @@
 -- Document 01's reading: what it threads, and how each node is evaluated. pest's own state is in Pest, whose header
 -- names what it takes from here.
-use Rattle.std.specs.Prelude.{Bool, true, false, ◌&&◌, ◌||◌, not, List, [], ◌∷◌, ◌++◌, reverse, ℕ, zero, suc, ◌+◌, ◌-◌, min, ℤ, pos, negsuc, length, take, drop, eqb, ltb, leb}
+use Rattle.std.specs.Prelude.{Bool, true, false, ◌&&◌, ◌||◌, not, List, [], ◌∷◌, ◌++◌, reverse, ℕ, zero, suc, ◌+◌, ◌-◌, min, ℤ, pos, negsuc, length, take, drop, eqb, ltb, leb, if◌then◌else◌}
 use Rattle.std.proofs.Math.Option.{Option, none, some}
 use Rattle.matching.specs.Position as Position
 use Rattle.reading.specs.declared.parser_state.Lookahead.{Lookahead}
@@ -10,7 +10,7 @@ use Rattle.reading.specs.declared.parser_state.Atomicity.TheVariants.{NonAtomic}
 use Rattle.reading.specs.declared.parser_state.Cause.TheVariants.{EmptyStack, TokensFull, StackFull, AttemptsFull}
 use Rattle.reading.specs.declared.call_limit_tracker.LimitKind.{LimitKind}
 use Rattle.reading.specs.declared.call_limit_tracker.LimitKind.TheVariants.{Call, Stack}
-use Rattle.reading.specs.Ending.{if◌then◌else◌, Ending, Ok, Err, Stop, on_ok, on_err, stop_if, Span, Checkpoint, is_negative, is_none, is_atomic}
+use Rattle.reading.specs.Ending.{Ending, Ok, Err, Stop, on_ok, on_err, stop_if, Span, Checkpoint, is_negative, is_none, is_atomic}
 use Rattle.reading.specs.Grammar.{Exp, match_string, match_insensitive, match_range, skip, end_of_input, and_then, or_else, rule, sequence, repeat, optional, lookahead, atomic, stack_push, stack_pop, stack_match_peek_slice, stack_match_pop, restore_on_err, tag_node, call, RuleLine}
 use Rattle.reading.specs.Forest.{Forest, empty, add, count, size, cut, tag_last}
 
