@@ -129,8 +129,7 @@ pub fn enter(tracker: &mut CallLimitTracker, count_call: bool, room: usize) -> b
     next.answer
 }
 
-// An entry for whoever holds the tracker by value: it is lent to `enter`, and comes back beside the answer. Whoever calls this needs no
-// proof by hand.
+// An entry for whoever holds the tracker by value: it is lent to `enter`, and comes back beside the answer.
 pub fn check_limit(t: CallLimitTracker, count_call: bool, room: usize) -> Answered
     ensures { answered result.answer result.tracker ≡ entry_at (ltb 0 room) count_call t }
 {

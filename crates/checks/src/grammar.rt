@@ -109,8 +109,8 @@ struct Tests {
 }
 
 fn tests_at(nodes: &[i32], literals: &[u8], line: usize) -> Tests
-    requires le_line { (1 ≤ line) × (line * 4 ≤ length nodes.now) }
-    requires literals_value { is_utf8 literals.now ≡ true }
+    requires line_inside { (1 ≤ line) × (line * 4 ≤ length nodes.now) }
+    requires literals_utf8 { is_utf8 literals.now ≡ true }
     ensures { result ≡ tests_of nodes.now literals.now line (node_at nodes.now line) }
 {
     let a = field_at(nodes, line * 4 - 3);
@@ -139,8 +139,8 @@ fn tests_at(nodes: &[i32], literals: &[u8], line: usize) -> Tests
 
 // Whether the fields of the line fit its kind, by the table's rows.
 fn fields_fit(nodes: &[i32], literals: &[u8], line: usize) -> bool
-    requires le_line { (1 ≤ line) × (line * 4 ≤ length nodes.now) }
-    requires literals_value { is_utf8 literals.now ≡ true }
+    requires line_inside { (1 ≤ line) × (line * 4 ≤ length nodes.now) }
+    requires literals_utf8 { is_utf8 literals.now ≡ true }
     ensures { result ≡ fields_fit nodes.now literals.now line (node_at nodes.now line) }
 {
     let kind = kind_at(nodes, line);
@@ -176,8 +176,8 @@ fn fields_fit(nodes: &[i32], literals: &[u8], line: usize) -> bool
 
 // Whether the line stands in the table.
 pub(crate) fn line_fits(nodes: &[i32], literals: &[u8], line: usize) -> bool
-    requires le_line { (1 ≤ line) × (line * 4 ≤ length nodes.now) }
-    requires literals_value { is_utf8 literals.now ≡ true }
+    requires line_inside { (1 ≤ line) × (line * 4 ≤ length nodes.now) }
+    requires literals_utf8 { is_utf8 literals.now ≡ true }
     ensures { result ≡ line_fits nodes.now literals.now line }
 {
     let kind = field_at(nodes, line * 4 - 4);
@@ -189,7 +189,7 @@ pub(crate) fn line_fits(nodes: &[i32], literals: &[u8], line: usize) -> bool
 // The first of the lines that does not stand in the table.
 fn first_misfit(nodes: &[i32], literals: &[u8], count: usize) -> Fault
     requires count_in_bounds { (count * 4 ≤ length nodes.now) × (count ≤ 4096) }
-    requires literals_value { is_utf8 literals.now ≡ true }
+    requires literals_utf8 { is_utf8 literals.now ≡ true }
     ensures { result ≡ fault_of (first_line (line_misfits nodes.now literals.now) 1 count) }
 {
     let mut line = 1;

@@ -45,7 +45,7 @@ fn line_stands_still(nodes: &[i32], flags: &[bool], line: usize) -> bool
 fn raise(nodes: &[i32], flags: &mut [bool], index: usize, before: bool) -> bool
     requires { (index * 4 + 4 ≤ length nodes.now) × (index < length flags.old) }
     ensures flags_after { flags.new ≡ raised nodes.now index flags.old }
-    ensures before_value { result ≡ false → (before ≡ false) × (flags.new ≡ flags.old) }
+    ensures unchanged { result ≡ false → (before ≡ false) × (flags.new ≡ flags.old) }
 {
     if flags[index] {
         return before;
@@ -61,7 +61,7 @@ fn raise(nodes: &[i32], flags: &mut [bool], index: usize, before: bool) -> bool
 fn sweep(nodes: &[i32], flags: &mut [bool]) -> bool
     requires { length flags.old * 4 ≤ length nodes.now }
     ensures flags_after { flags.new ≡ swept nodes.now (length flags.old) flags.old }
-    ensures flags_unchanged { result ≡ false → flags.new ≡ flags.old }
+    ensures unchanged { result ≡ false → flags.new ≡ flags.old }
 {
     let mut changed = false;
     let mut i = 0;
@@ -75,7 +75,7 @@ fn sweep(nodes: &[i32], flags: &mut [bool]) -> bool
 // Flags the lines that may stand still. Each round but the last flags one line more, so there are at most as many as lines.
 fn flag_all(nodes: &[i32], flags: &mut [bool])
     requires flags_in_bounds { length flags.old * 4 ≤ length nodes.now }
-    requires flags_value { flags.old ≡ replicate (length flags.old) false }
+    requires none_flagged { flags.old ≡ replicate (length flags.old) false }
     ensures { flags.new ≡ rounds nodes.now (length flags.old) (length flags.old) }
 {
     let mut r = 0;
@@ -117,8 +117,8 @@ fn first_repeat(nodes: &[i32], flags: &[bool]) -> Fault
 
 // The same over lent flags, all false.
 fn still_repeat_in(nodes: &[i32], flags: &mut [bool]) -> Fault
-    requires nodes_len_bound { (length nodes.now ≤ 16384) × (4096 ≤ length flags.old) }
-    requires flags_value { flags.old ≡ replicate (length flags.old) false }
+    requires flags_fit { (length nodes.now ≤ 16384) × (4096 ≤ length flags.old) }
+    requires none_flagged { flags.old ≡ replicate (length flags.old) false }
     ensures { result ≡ fault_of (still_repeat nodes.now) }
 {
     let count = nodes.len() / 4;

@@ -7,8 +7,8 @@ use reading::parser_state::{Cause, Ending};
 
 // The number of an ending, which stands for it.
 pub fn packed(e: Ending) -> usize
-    ensures value { result ≡ packed e }
-    ensures result_value { unpacked result ≡ e }
+    ensures number { result ≡ packed e }
+    ensures back { unpacked result ≡ e }
 {
     match e {
         Ending::Err => 0,

@@ -56,7 +56,7 @@ pub(crate) fn leaf<'a>(
     line: usize,
     p: BytePosition,
 ) -> Matched
-    requires literals_value { (misfit nodes.now literals.now ≡ none) × (still_repeat nodes.now ≡ none) }
+    requires accepted { (misfit nodes.now literals.now ≡ none) × (still_repeat nodes.now ≡ none) }
     requires line { Line nodes.now line × (kind_at nodes.now line ≤ 5) }
     ensures { (capacity depth : ℕ) (m : Pest.ParserState) → Fit (setting_of nodes.now literals.now text.now capacity) m → m.position ≡ p.0 → Pest.moved (match_of result) m ≡ evaluated nodes.now literals.now text.now capacity depth (tree_at nodes.now literals.now line) m }
 {
@@ -73,7 +73,7 @@ pub(crate) fn leaf<'a>(
 
 // A line that is no fork: a leaf is done. (`[..]` here and below: see `node`.)
 fn last<'a>(nodes: &[i32], literals: &'a [u8], text: &'a [u8], line: usize, p: BytePosition) -> Halt
-    requires literals_value { (misfit nodes.now literals.now ≡ none) × (still_repeat nodes.now ≡ none) }
+    requires accepted { (misfit nodes.now literals.now ≡ none) × (still_repeat nodes.now ≡ none) }
     requires line { Line nodes.now line }
     ensures { (capacity depth : ℕ) (m : Pest.ParserState) → Fit (setting_of nodes.now literals.now text.now capacity) m → m.position ≡ p.0 → Walked nodes.now literals.now text.now capacity depth line m result }
 {
@@ -95,7 +95,7 @@ pub(crate) fn walk<'a>(
     line: usize,
     p: BytePosition,
 ) -> Halt
-    requires literals_value { (misfit nodes.now literals.now ≡ none) × (still_repeat nodes.now ≡ none) }
+    requires accepted { (misfit nodes.now literals.now ≡ none) × (still_repeat nodes.now ≡ none) }
     requires line { Line nodes.now line }
     ensures { (capacity depth : ℕ) (m : Pest.ParserState) → Fit (setting_of nodes.now literals.now text.now capacity) m → m.position ≡ p.0 → Walked nodes.now literals.now text.now capacity depth line m result }
 {

@@ -39,8 +39,8 @@ pub(crate) fn push_end(
     rule: u32,
     p: BytePosition,
 )
-    requires n_in_bounds { (n.0 * 5 + 5 ≤ length tokens.old) × (p.0 ≤ 65535) }
-    requires partner_bound { partner.0 ≤ 4294967295 }
+    requires token_fits { (n.0 * 5 + 5 ≤ length tokens.old) × (p.0 ≤ 65535) }
+    requires partner_fits { partner.0 ≤ 4294967295 }
     ensures { Pushed tokens.old n.0 (End partner.0 rule 0 p.0) tokens.new }
 {
     let start = partner.0 as u32;

@@ -59,7 +59,7 @@ pub(crate) fn produces(s: &[usize]) -> bool
 pub(crate) fn start_rule(tokens: &mut [u32], s: &mut [usize], room: usize, line: u32) -> Ending
     requires state_size_in_bounds { state_size ≤ length s.old }
     requires recording { Recording tokens.old room (fields s.old) }
-    ensures result_after { (g : Setting) (scratch : List ℕ) → g.capacity ≡ room → view_end tokens.new scratch (fields s.new) result ≡ starting g line (view tokens.old scratch (fields s.old)) }
+    ensures state_after { (g : Setting) (scratch : List ℕ) → g.capacity ≡ room → view_end tokens.new scratch (fields s.new) result ≡ starting g line (view tokens.old scratch (fields s.old)) }
     ensures outside { Outside ((fields s.old).queue.0 * 5) ((fields s.old).queue.0 * 5 + 5) tokens.old tokens.new }
 {
     let n = queue(s);
@@ -135,7 +135,7 @@ pub(crate) fn close_rule(
 ) -> Ending
     requires state_size_in_bounds { state_size ≤ length s.old }
     requires recording { Recording tokens.old room (fields s.old) × (index.0 ≤ room) }
-    ensures result_after { (g : Setting) (scratch : List ℕ) → g.capacity ≡ room → view_end tokens.new scratch (fields s.new) result ≡ Pest.close_rule g true line rule index.0 (view tokens.old scratch (fields s.old)) }
+    ensures state_after { (g : Setting) (scratch : List ℕ) → g.capacity ≡ room → view_end tokens.new scratch (fields s.new) result ≡ Pest.close_rule g true line rule index.0 (view tokens.old scratch (fields s.old)) }
     ensures outside { Outside 0 ((fields s.old).queue.0 * 5 + 5) tokens.old tokens.new }
 {
     let n = queue(s);
@@ -172,8 +172,8 @@ pub(crate) fn drop_rule(s: &mut [usize], index: TokenIndex)
 // "under lookahead None it sets the last sibling's tag, if any"
 pub(crate) fn tag_node(tokens: &mut [u32], s: &[usize], tag: u32) -> Ending
     requires state_size_in_bounds { state_size ≤ length s.now }
-    requires s_in_bounds { (fields s.now).queue.0 * 5 ≤ length tokens.old }
-    ensures by_index { (scratch : List ℕ) → view_end tokens.new scratch (fields s.now) result ≡ Pest.tag_node tag (view tokens.old scratch (fields s.now)) }
+    requires queue_fits { (fields s.now).queue.0 * 5 ≤ length tokens.old }
+    ensures state_after { (scratch : List ℕ) → view_end tokens.new scratch (fields s.now) result ≡ Pest.tag_node tag (view tokens.old scratch (fields s.now)) }
     ensures outside { Outside (((fields s.now).queue.0 - 1) * 5) ((fields s.now).queue.0 * 5) tokens.old tokens.new }
 {
     let l = lookahead(s);

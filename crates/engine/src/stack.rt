@@ -36,7 +36,7 @@ pub enum Popped {
 
 pub(crate) fn push(scratch: &mut [u32], s: Stack, start: u32, end: u32) -> Pushed
     requires { StackReady scratch.old s }
-    ensures result_after { push_of scratch.new result ≡ pushed (span start end) (stack_of scratch.old s) }
+    ensures state_after { push_of scratch.new result ≡ pushed (span start end) (stack_of scratch.old s) }
     ensures outside_stack { OutsideStack scratch.old scratch.new }
 {
     let h = s.height;
@@ -61,7 +61,7 @@ pub(crate) fn span_of(x: Pair) -> Span
 // Where the stack is at its lowest since the innermost checkpoint, the checkpoint comes to owe the entry that goes.
 pub(crate) fn pop(scratch: &mut [u32], s: Stack) -> Popped
     requires { StackReady scratch.old s }
-    ensures result_after { take_of scratch.new result ≡ taken (stack_of scratch.old s) }
+    ensures state_after { take_of scratch.new result ≡ taken (stack_of scratch.old s) }
     ensures outside_stack { OutsideStack scratch.old scratch.new }
 {
     let h = s.height;
@@ -96,7 +96,7 @@ pub(crate) fn pop(scratch: &mut [u32], s: Stack) -> Popped
 
 pub(crate) fn snapshot(scratch: &mut [u32], s: Stack) -> Stack
     requires { StackReady scratch.old s × (s.checkpoints < most_checkpoints) }
-    ensures result_after { stack_of scratch.new result ≡ snapshot (stack_of scratch.old s) }
+    ensures state_after { stack_of scratch.new result ≡ snapshot (stack_of scratch.old s) }
     ensures outside_stack { OutsideStack scratch.old scratch.new }
 {
     let h = s.height;
@@ -135,7 +135,7 @@ fn refill(scratch: &mut [u32], low: usize, p: usize, n: usize)
 // "on dropping, the outer takes the lower of the two lowest heights": it keeps the popped entries down to its own lowest height.
 pub(crate) fn clear_snapshot(scratch: &mut [u32], s: Stack) -> Stack
     requires { StackReady scratch.old s }
-    ensures result_after { stack_of scratch.new result ≡ clear_snapshot (stack_of scratch.old s) }
+    ensures state_after { stack_of scratch.new result ≡ clear_snapshot (stack_of scratch.old s) }
     ensures outside_stack { OutsideStack scratch.old scratch.new }
 {
     let c = s.checkpoints;
@@ -176,7 +176,7 @@ pub(crate) fn clear_snapshot(scratch: &mut [u32], s: Stack) -> Stack
 // What was pushed since the innermost checkpoint goes, and what was popped comes back.
 pub(crate) fn restore(scratch: &mut [u32], s: Stack) -> Stack
     requires { StackReady scratch.old s }
-    ensures result_after { stack_of scratch.new result ≡ restore (stack_of scratch.old s) }
+    ensures state_after { stack_of scratch.new result ≡ restore (stack_of scratch.old s) }
     ensures outside_stack { OutsideStack scratch.old scratch.new }
 {
     let c = s.checkpoints;

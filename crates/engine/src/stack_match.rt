@@ -96,7 +96,7 @@ fn has_room(size: usize, at: usize, n: usize) -> bool
 // "keeps popping entries until one fails to match; failing, .. popped entries are gone"
 pub(crate) fn match_pop(text: &[u8], scratch: &mut [u32], s: Stack, p: BytePosition) -> MatchPopped
     requires { StackReady scratch.old s }
-    ensures by_index { (line : ℕ) → (m : ParserState) → match_end scratch.new line m result ≡ stack_match_pop text.now true line (stack_of scratch.old s).cache p.0 (set_stack (stack_of scratch.old s) m) }
+    ensures state_after { (line : ℕ) → (m : ParserState) → match_end scratch.new line m result ≡ stack_match_pop text.now true line (stack_of scratch.old s).cache p.0 (set_stack (stack_of scratch.old s) m) }
     ensures outside_stack { OutsideStack scratch.old scratch.new }
 {
     let mut t = s;

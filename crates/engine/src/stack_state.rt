@@ -19,7 +19,7 @@ use reading::parser_state::{Cause, Ending};
 pub(crate) fn checkpoint(scratch: &mut [u32], s: &mut [usize])
     requires state_size_in_bounds { state_size ≤ length s.old }
     requires state_ready { StateReady scratch.old (fields s.old) × ((fields s.old).stack.checkpoints < most_checkpoints) }
-    ensures by_index { (tokens : List ℕ) → view tokens scratch.new (fields s.new) ≡ checkpoint (view tokens scratch.old (fields s.old)) }
+    ensures state_after { (tokens : List ℕ) → view tokens scratch.new (fields s.new) ≡ checkpoint (view tokens scratch.old (fields s.old)) }
     ensures outside_stack { OutsideStack scratch.old scratch.new }
 {
     let v = stack(s);
@@ -30,7 +30,7 @@ pub(crate) fn checkpoint(scratch: &mut [u32], s: &mut [usize])
 pub(crate) fn checkpoint_ok(scratch: &mut [u32], s: &mut [usize])
     requires state_size_in_bounds { state_size ≤ length s.old }
     requires state_ready { StateReady scratch.old (fields s.old) }
-    ensures by_index { (tokens : List ℕ) → view tokens scratch.new (fields s.new) ≡ checkpoint_ok (view tokens scratch.old (fields s.old)) }
+    ensures state_after { (tokens : List ℕ) → view tokens scratch.new (fields s.new) ≡ checkpoint_ok (view tokens scratch.old (fields s.old)) }
     ensures outside_stack { OutsideStack scratch.old scratch.new }
 {
     let v = stack(s);
@@ -41,7 +41,7 @@ pub(crate) fn checkpoint_ok(scratch: &mut [u32], s: &mut [usize])
 pub(crate) fn restored(scratch: &mut [u32], s: &mut [usize])
     requires state_size_in_bounds { state_size ≤ length s.old }
     requires state_ready { StateReady scratch.old (fields s.old) }
-    ensures by_index { (tokens : List ℕ) → view tokens scratch.new (fields s.new) ≡ restored (view tokens scratch.old (fields s.old)) }
+    ensures state_after { (tokens : List ℕ) → view tokens scratch.new (fields s.new) ≡ restored (view tokens scratch.old (fields s.old)) }
     ensures outside_stack { OutsideStack scratch.old scratch.new }
 {
     let v = stack(s);
@@ -72,7 +72,7 @@ pub(crate) fn stack_push_end(
 ) -> Ending
     requires state_size_in_bounds { state_size ≤ length s.old }
     requires push_ready { PushReady scratch.old start (fields s.old) }
-    ensures by_index { (text : List ℕ) → (tokens : List ℕ) → view_end tokens scratch.new (fields s.new) result ≡ push_end text true line start.0 (Ok (view tokens scratch.old (fields s.old))) }
+    ensures state_after { (text : List ℕ) → (tokens : List ℕ) → view_end tokens scratch.new (fields s.new) result ≡ push_end text true line start.0 (Ok (view tokens scratch.old (fields s.old))) }
     ensures outside_stack { OutsideStack scratch.old scratch.new }
 {
     let v = stack(s);
@@ -90,7 +90,7 @@ pub(crate) fn stack_push_end(
 pub(crate) fn stack_pop(text: &[u8], scratch: &mut [u32], s: &mut [usize], line: u32) -> Ending
     requires state_size_in_bounds { state_size ≤ length s.old }
     requires state_ready { StateReady scratch.old (fields s.old) }
-    ensures by_index { (tokens : List ℕ) → view_end tokens scratch.new (fields s.new) result ≡ stack_pop text.now true line (stack_of scratch.old (fields s.old).stack).cache (view tokens scratch.old (fields s.old)) }
+    ensures state_after { (tokens : List ℕ) → view_end tokens scratch.new (fields s.new) result ≡ stack_pop text.now true line (stack_of scratch.old (fields s.old).stack).cache (view tokens scratch.old (fields s.old)) }
     ensures outside_stack { OutsideStack scratch.old scratch.new }
 {
     let v = stack(s);
@@ -143,7 +143,7 @@ pub(crate) fn stack_match_pop(
 ) -> Ending
     requires state_size_in_bounds { state_size ≤ length s.old }
     requires state_ready { StateReady scratch.old (fields s.old) }
-    ensures by_index { (tokens : List ℕ) → view_end tokens scratch.new (fields s.new) result ≡ stack_match_pop text.now true line (stack_of scratch.old (fields s.old).stack).cache (fields s.old).position.0 (view tokens scratch.old (fields s.old)) }
+    ensures state_after { (tokens : List ℕ) → view_end tokens scratch.new (fields s.new) result ≡ stack_match_pop text.now true line (stack_of scratch.old (fields s.old).stack).cache (fields s.old).position.0 (view tokens scratch.old (fields s.old)) }
     ensures outside_stack { OutsideStack scratch.old scratch.new }
 {
     let v = stack(s);

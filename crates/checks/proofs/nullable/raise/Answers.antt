@@ -7,17 +7,17 @@ use Rattle.checks.proofs.nullable.raise.Goals as goal
 pub returns-then-flags-index-clause-flags_after : goal.returns-then-flags-index-clause-flags_after
 returns-then-flags-index-clause-flags_after c = raised_flagged c.args.nodes.now c.args.index c.args.flags.now c.if-flags-index.true
 
-pub returns-then-flags-index-clause-before_value : goal.returns-then-flags-index-clause-before_value
-returns-then-flags-index-clause-before_value c = λ e. (e, refl)
+pub returns-then-flags-index-clause-unchanged : goal.returns-then-flags-index-clause-unchanged
+returns-then-flags-index-clause-unchanged c = λ e. (e, refl)
 
 pub returns-then-line_stands_still-clause-flags_after : goal.returns-then-line_stands_still-clause-flags_after
 returns-then-line_stands_still-clause-flags_after c = raised_yes c.args.nodes.now c.args.index c.args.flags.now (still_of c.args.nodes.now c.args.index c.args.flags.now c.line_stands_still.ensures ∙ c.if-line_stands_still.true)
 
-pub returns-then-line_stands_still-clause-before_value : goal.returns-then-line_stands_still-clause-before_value
-returns-then-line_stands_still-clause-before_value c = λ e. absurd (true≢false e)
+pub returns-then-line_stands_still-clause-unchanged : goal.returns-then-line_stands_still-clause-unchanged
+returns-then-line_stands_still-clause-unchanged c = λ e. absurd (true≢false e)
 
 pub returns-clause-flags_after : goal.returns-clause-flags_after
 returns-clause-flags_after c = raised_no c.args.nodes.now c.args.index c.args.flags.now c.if-flags-index.false (still_of c.args.nodes.now c.args.index c.args.flags.now c.line_stands_still.ensures ∙ c.if-line_stands_still.false)
 
-pub returns-clause-before_value : goal.returns-clause-before_value
-returns-clause-before_value c = λ e. (e, refl)
+pub returns-clause-unchanged : goal.returns-clause-unchanged
+returns-clause-unchanged c = λ e. (e, refl)

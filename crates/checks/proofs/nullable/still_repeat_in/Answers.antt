@@ -10,8 +10,8 @@ slice_bounds-flag_all-end-2 c = part_length (line_count c.args.nodes.now) c.args
 pub flag_all-requires-clause-flags_in_bounds : goal.flag_all-requires-clause-flags_in_bounds
 flag_all-requires-clause-flags_in_bounds c = omega (arith, part_length (line_count c.args.nodes.now) c.args.flags.now (omega arith))
 
-pub flag_all-requires-clause-flags_value : goal.flag_all-requires-clause-flags_value
-flag_all-requires-clause-flags_value c = part_false (line_count c.args.nodes.now) c.args.flags.now c.requires.flags_value (omega arith)
+pub flag_all-requires-clause-none_flagged : goal.flag_all-requires-clause-none_flagged
+flag_all-requires-clause-none_flagged c = part_false (line_count c.args.nodes.now) c.args.flags.now c.requires.none_flagged (omega arith)
 
 pub slice_bounds-first_repeat-end-2 : goal.slice_bounds-first_repeat-end-2
 slice_bounds-first_repeat-end-2 c = back_length c.args.nodes.now c.args.flags.now c.flag_all.new.flags (omega arith) c.flag_all.ensures

@@ -16,4 +16,4 @@ restored-requires-clause-state_ready c = let s : ParserState = fields c.args.s.n
 pub returns : goal.returns
 returns c = let s : ParserState = fields c.args.s.now in
     let back : fields c.set_lookahead.new.s ≡ back_to s c.args.position s.queue c.args.lookahead = c.set_lookahead.ensures ∙ ap (set_lookahead c.args.lookahead) c.set_position.ensures in
-    λ tokens. c.restored.ensures.by_index tokens ∙ ap (λ (t : ParserState). restored (view tokens c.args.scratch.now t)) back
+    λ tokens. c.restored.ensures.state_after tokens ∙ ap (λ (t : ParserState). restored (view tokens c.args.scratch.now t)) back

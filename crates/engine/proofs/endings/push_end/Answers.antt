@@ -11,7 +11,7 @@ pub stack_push_end-requires-clause-push_ready : goal.stack_push_end-requires-cla
 stack_push_end-requires-clause-push_ready c = subst (PushEndReady c.args.scratch.now c.args.start (fields c.args.s.now)) c.in-Ok.is c.requires.push_end_ready
 
 pub returns-in-Ok : goal.returns-in-Ok
-returns-in-Ok c = λ text tokens. rw c.in-Ok.is (c.stack_push_end.ensures.by_index text tokens)
+returns-in-Ok c = λ text tokens. rw c.in-Ok.is (c.stack_push_end.ensures.state_after text tokens)
 
 pub returns-in-Err : goal.returns-in-Err
 returns-in-Err c = λ text tokens. rw c.in-Err.is

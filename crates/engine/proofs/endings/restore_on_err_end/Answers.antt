@@ -18,10 +18,10 @@ pub restored-requires-clause-state_ready : goal.restored-requires-clause-state_r
 restored-requires-clause-state_ready c = (subst (EndReady c.args.scratch.now 0 (fields c.args.s.now)) c.in-Err.is c.requires.end_ready).0
 
 pub returns-in-Ok : goal.returns-in-Ok
-returns-in-Ok c = λ tokens. rw c.in-Ok.is (ap Ok (c.checkpoint_ok.ensures.by_index tokens))
+returns-in-Ok c = λ tokens. rw c.in-Ok.is (ap Ok (c.checkpoint_ok.ensures.state_after tokens))
 
 pub returns-in-Err : goal.returns-in-Err
-returns-in-Err c = λ tokens. rw c.in-Err.is (ap Err (c.restored.ensures.by_index tokens))
+returns-in-Err c = λ tokens. rw c.in-Err.is (ap Err (c.restored.ensures.state_after tokens))
 
 pub returns-in-Stop : goal.returns-in-Stop
 returns-in-Stop c = λ tokens. rw c.in-Stop.is

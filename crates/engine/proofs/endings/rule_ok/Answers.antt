@@ -11,7 +11,7 @@ close_rule-requires-clause-recording c = (recording_after c.args.tokens.now c.ar
 
 pub returns-in-Ok : goal.returns-in-Ok
 returns-in-Ok c = let s : ParserState = fields c.args.s.now in
-    λ g h. after_ok g c.is_negative-due.result c.args.line c.args.rule c.args.position.0 c.args.n (view c.args.tokens.now c.args.scratch.now s) c.args.tokens.now c.track_rule.new.scratch (fields c.track_rule.new.s) c.track_rule.result _ c.in-Ok.is (c.track_rule.ensures.0 g c.args.tokens.now) c.args.index.0 _ (c.is_negative-due.ensures ∙ ap is_negative c.lookahead.ensures) (c.close_rule.ensures.result_after g c.track_rule.new.scratch h)
+    λ g h. after_ok g c.is_negative-due.result c.args.line c.args.rule c.args.position.0 c.args.n (view c.args.tokens.now c.args.scratch.now s) c.args.tokens.now c.track_rule.new.scratch (fields c.track_rule.new.s) c.track_rule.result _ c.in-Ok.is (c.track_rule.ensures.0 g c.args.tokens.now) c.args.index.0 _ (c.is_negative-due.ensures ∙ ap is_negative c.lookahead.ensures) (c.close_rule.ensures.state_after g c.track_rule.new.scratch h)
 
 pub returns-in-Err : goal.returns-in-Err
 returns-in-Err c = let s : ParserState = fields c.args.s.now in

@@ -21,11 +21,11 @@ pub restored-requires-clause-state_ready : goal.restored-requires-clause-state_r
 restored-requires-clause-state_ready c = let s : ParserState = fields c.args.s.now in back_ready c.args.scratch.now s _ c.args.position c.args.queue s.lookahead (c.set_queue.ensures ∙ ap (set_queue c.args.queue) c.set_position.ensures) (subst (EndReady c.args.scratch.now c.args.queue.0 s) c.in-Err.is c.requires.end_ready).0
 
 pub returns-in-Ok : goal.returns-in-Ok
-returns-in-Ok c = λ tokens. rw c.in-Ok.is (ap Ok (c.checkpoint_ok.ensures.by_index tokens))
+returns-in-Ok c = λ tokens. rw c.in-Ok.is (ap Ok (c.checkpoint_ok.ensures.state_after tokens))
 
 pub returns-in-Err : goal.returns-in-Err
 returns-in-Err c = let s : ParserState = fields c.args.s.now in
-    λ tokens. rw c.in-Err.is (ap Err (c.restored.ensures.by_index tokens ∙ ap restored (cut_view c.args.scratch.now s _ c.args.position c.args.queue s.lookahead (c.set_queue.ensures ∙ ap (set_queue c.args.queue) c.set_position.ensures) tokens (subst (EndReady c.args.scratch.now c.args.queue.0 s) c.in-Err.is c.requires.end_ready).1)))
+    λ tokens. rw c.in-Err.is (ap Err (c.restored.ensures.state_after tokens ∙ ap restored (cut_view c.args.scratch.now s _ c.args.position c.args.queue s.lookahead (c.set_queue.ensures ∙ ap (set_queue c.args.queue) c.set_position.ensures) tokens (subst (EndReady c.args.scratch.now c.args.queue.0 s) c.in-Err.is c.requires.end_ready).1)))
 
 pub returns-in-Stop : goal.returns-in-Stop
 returns-in-Stop c = λ tokens. rw c.in-Stop.is

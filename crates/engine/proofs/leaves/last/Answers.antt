@@ -7,13 +7,13 @@ use Rattle.engine.proofs.LeafSteps.{kind_low, first_onto, walked_halted, walked_
 use Rattle.engine.proofs.leaves.last.Goals as goal
 
 pub line_at-n-requires : goal.line_at-n-requires
-line_at-n-requires c = whole _ _ (accepted _ _ c.requires.literals_value.0 c.requires.literals_value.1) _ c.requires.line
+line_at-n-requires c = whole _ _ (accepted _ _ c.requires.accepted.0 c.requires.accepted.1) _ c.requires.line
 
 pub returns-then-n-gt5 : goal.returns-then-n-gt5
 returns-then-n-gt5 c = λ capacity depth m f x. walked_halted _ _ _ capacity depth _ m _ _ _ c.halted.ensures (first_onto _ _ _ capacity depth _ m _ c.requires.line f x)
 
-pub leaf-requires-clause-literals_value : goal.leaf-requires-clause-literals_value
-leaf-requires-clause-literals_value c = c.requires.literals_value
+pub leaf-requires-clause-accepted : goal.leaf-requires-clause-accepted
+leaf-requires-clause-accepted c = c.requires.accepted
 
 pub leaf-requires-clause-line : goal.leaf-requires-clause-line
 leaf-requires-clause-line c = (c.requires.line, kind_low _ _ _ c.line_at-n.ensures (omega (arith, c.if-n-gt5.false)))

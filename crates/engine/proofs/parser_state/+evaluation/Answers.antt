@@ -162,7 +162,7 @@ lookahead-node-r-requires t c =
     subst (λ (m : Pest.ParserState). Ready c.args.nodes.now c.args.literals.now c.args.text.now c.args.tokens.now c.args.scratch.now c.args.room c.args.depth m) (sym looking) (ready_looking _ _ _ _ open_ready c.lookahead_in.result) in
     let marked :
     Ready c.args.nodes.now c.args.literals.now c.args.text.now c.args.tokens.now c.checkpoint.new.scratch c.args.room (c.args.depth - 1) (view c.args.tokens.now c.checkpoint.new.scratch (fields c.checkpoint.new.s)) =
-    ready_marked _ _ _ _ looking_ready deep_open _ _ (c.checkpoint.ensures.by_index c.args.tokens.now) c.checkpoint.auto.scratch in
+    ready_marked _ _ _ _ looking_ready deep_open _ _ (c.checkpoint.ensures.state_after c.args.tokens.now) c.checkpoint.auto.scratch in
     (down _ _ _ t deep_open (at_12 _ _ (tests _ _ _ _ c.requires.ready.0) _ c.requires.line.0 _ c.line_at-n.ensures c.requires.line.1).0.high (tests _ _ _ _ c.requires.ready.0).few c.decreases, ((marked, (wide_on (wide_on wide c.set_lookahead.auto.s) c.checkpoint.auto.s)), (at_12 _ _ (tests _ _ _ _ c.requires.ready.0) _ c.requires.line.0 _ c.line_at-n.ensures c.requires.line.1).0))
 
 pub lookahead-lookahead_end-requires-clause-end_ready : goal.lookahead-lookahead_end-requires-clause-end_ready
@@ -185,7 +185,7 @@ lookahead-lookahead_end-requires-clause-end_ready t c =
     subst (λ (m : Pest.ParserState). Ready c.args.nodes.now c.args.literals.now c.args.text.now c.args.tokens.now c.args.scratch.now c.args.room c.args.depth m) (sym looking) (ready_looking _ _ _ _ open_ready c.lookahead_in.result) in
     let marked :
     Ready c.args.nodes.now c.args.literals.now c.args.text.now c.args.tokens.now c.checkpoint.new.scratch c.args.room (c.args.depth - 1) (view c.args.tokens.now c.checkpoint.new.scratch (fields c.checkpoint.new.s)) =
-    ready_marked _ _ _ _ looking_ready deep_open _ _ (c.checkpoint.ensures.by_index c.args.tokens.now) c.checkpoint.auto.scratch in
+    ready_marked _ _ _ _ looking_ready deep_open _ _ (c.checkpoint.ensures.state_after c.args.tokens.now) c.checkpoint.auto.scratch in
     body_ready _ _ _ _ _ c.line_at-n.result.a _ _ _ marked c.node-r.new.tokens c.node-r.new.scratch c.node-r.auto.scratch (fields c.node-r.new.s) c.node-r.result c.node-r.ensures 0 (omega arith)
 
 pub lookahead-returns : goal.lookahead-returns
@@ -196,7 +196,7 @@ lookahead-returns t c =
     let looking :
     (view c.args.tokens.now c.args.scratch.now (fields c.set_lookahead.new.s)) ≡ Pest.set_lookahead c.lookahead_in.result (view c.args.tokens.now c.args.scratch.now (fields c.enter.new.s)) =
     ap (view c.args.tokens.now c.args.scratch.now) c.set_lookahead.ensures in
-    by_tree _ _ _ _ _ _ _ _ _ (at_12 _ _ (tests _ _ _ _ c.requires.ready.0) _ c.requires.line.0 _ c.line_at-n.ensures c.requires.line.1).1 (lookahead_step _ _ _ _ _ c.line_at-n.result.a _ _ (eqb c.line_at-n.result.b 1) entered _ (sym c.lookahead-l.ensures) _ (c.checkpoint.ensures.by_index c.args.tokens.now ∙ ap Pest.checkpoint (looking ∙ ap (λ (l : Lookahead). Pest.set_lookahead l (view c.args.tokens.now c.args.scratch.now (fields c.enter.new.s))) c.lookahead_in.ensures)) _ c.node-r.ensures _ (placed c.position-p.ensures) _ (c.lookahead_end.ensures c.node-r.new.tokens))
+    by_tree _ _ _ _ _ _ _ _ _ (at_12 _ _ (tests _ _ _ _ c.requires.ready.0) _ c.requires.line.0 _ c.line_at-n.ensures c.requires.line.1).1 (lookahead_step _ _ _ _ _ c.line_at-n.result.a _ _ (eqb c.line_at-n.result.b 1) entered _ (sym c.lookahead-l.ensures) _ (c.checkpoint.ensures.state_after c.args.tokens.now ∙ ap Pest.checkpoint (looking ∙ ap (λ (l : Lookahead). Pest.set_lookahead l (view c.args.tokens.now c.args.scratch.now (fields c.enter.new.s))) c.lookahead_in.ensures)) _ c.node-r.ensures _ (placed c.position-p.ensures) _ (c.lookahead_end.ensures c.node-r.new.tokens))
 
 -- ── optional ──
 -- An open entry, the body, `optional_end`: put together by `optional-step`.
@@ -246,7 +246,7 @@ packed_node-returns-then-w t c =
     let put :
     (view c.loop-w.tokens c.loop-w.scratch (fields c.set_position.new.s)) ≡ Pest.set_position c.walk-w.result.position.0 (view c.loop-w.tokens c.loop-w.scratch (fields c.loop-w.s)) =
     ap (view c.loop-w.tokens c.loop-w.scratch) c.set_position.ensures in
-    ap (view_end c.loop-w.tokens c.loop-w.scratch (fields c.set_position.new.s)) (c.packed.ensures.result_value ∙ c.ended.ensures) ∙ answers c.loop-w.tokens c.loop-w.scratch (fields c.set_position.new.s) c.walk-w.result.good ∙ ap (answer c.walk-w.result.good) put ∙ walked.ended c.if-w.true ∙ c.loop-w.invariant.0.runs
+    ap (view_end c.loop-w.tokens c.loop-w.scratch (fields c.set_position.new.s)) (c.packed.ensures.back ∙ c.ended.ensures) ∙ answers c.loop-w.tokens c.loop-w.scratch (fields c.set_position.new.s) c.walk-w.result.good ∙ ap (answer c.walk-w.result.good) put ∙ walked.ended c.if-w.true ∙ c.loop-w.invariant.0.runs
 
 pub packed_node-line_at-n-requires : goal.packed_node-line_at-n-requires
 packed_node-line_at-n-requires t c =
@@ -285,7 +285,7 @@ packed_node-returns-then-not-goes_right t c =
     let on :
     Walking c.args.nodes.now c.args.literals.now c.args.text.now c.args.room c.args.depth c.args.line c.args.tokens.now c.args.scratch.now (view c.args.tokens.now c.args.scratch.now (fields c.args.s.now)) c.loop-w.tokens c.loop-w.scratch c.walk-w.result.line (view c.loop-w.tokens c.loop-w.scratch (fields c.set_position.new.s)) =
     subst (λ (m : Pest.ParserState). Walking c.args.nodes.now c.args.literals.now c.args.text.now c.args.room c.args.depth c.args.line c.args.tokens.now c.args.scratch.now (view c.args.tokens.now c.args.scratch.now (fields c.args.s.now)) c.loop-w.tokens c.loop-w.scratch c.walk-w.result.line m) (sym put) (walk_on _ _ _ _ _ _ _ _ _ _ _ _ _ c.loop-w.invariant.0 _ _ (walked.going c.if-w.false)) in
-    told _ _ _ _ _ _ (top_stay _ _ _ _ _ _ _ _ _ on.ready on.here _ c.left_side-e.ensures _ c.line_at-n.ensures (goes_no _ _ _ _ _ (sym c.goes_right.ensures ∙ refused_test c.goes_right.result (ap not c.if-not-goes_right.true))) ∙ on.runs) (sym c.packed-then-not-goes_right.ensures.result_value)
+    told _ _ _ _ _ _ (top_stay _ _ _ _ _ _ _ _ _ on.ready on.here _ c.left_side-e.ensures _ c.line_at-n.ensures (goes_no _ _ _ _ _ (sym c.goes_right.ensures ∙ refused_test c.goes_right.result (ap not c.if-not-goes_right.true))) ∙ on.runs) (sym c.packed-then-not-goes_right.ensures.back)
 
 pub packed_node-loop-w-smaller : goal.packed_node-loop-w-smaller
 packed_node-loop-w-smaller t c =
@@ -420,7 +420,7 @@ restore_on_err-node-r-requires t c =
     let wide : state_size ≤ length c.enter.new.s = wide_on c.requires.ready.1 c.enter.auto.s in
     let marked :
     Ready c.args.nodes.now c.args.literals.now c.args.text.now c.args.tokens.now c.checkpoint.new.scratch c.args.room (c.args.depth - 1) (view c.args.tokens.now c.checkpoint.new.scratch (fields c.checkpoint.new.s)) =
-    ready_marked _ _ _ _ open_ready deep_open _ _ (c.checkpoint.ensures.by_index c.args.tokens.now) c.checkpoint.auto.scratch in
+    ready_marked _ _ _ _ open_ready deep_open _ _ (c.checkpoint.ensures.state_after c.args.tokens.now) c.checkpoint.auto.scratch in
     (down _ _ _ t deep_open (at_18 _ _ (tests _ _ _ _ c.requires.ready.0) _ c.requires.line.0 _ c.line_at-n.ensures c.requires.line.1).0.high (tests _ _ _ _ c.requires.ready.0).few c.decreases, ((marked, (wide_on wide c.checkpoint.auto.s)), (at_18 _ _ (tests _ _ _ _ c.requires.ready.0) _ c.requires.line.0 _ c.line_at-n.ensures c.requires.line.1).0))
 
 pub restore_on_err-restore_on_err_end-requires-clause-end_ready : goal.restore_on_err-restore_on_err_end-requires-clause-end_ready
@@ -437,7 +437,7 @@ restore_on_err-restore_on_err_end-requires-clause-end_ready t c =
     let wide : state_size ≤ length c.enter.new.s = wide_on c.requires.ready.1 c.enter.auto.s in
     let marked :
     Ready c.args.nodes.now c.args.literals.now c.args.text.now c.args.tokens.now c.checkpoint.new.scratch c.args.room (c.args.depth - 1) (view c.args.tokens.now c.checkpoint.new.scratch (fields c.checkpoint.new.s)) =
-    ready_marked _ _ _ _ open_ready deep_open _ _ (c.checkpoint.ensures.by_index c.args.tokens.now) c.checkpoint.auto.scratch in
+    ready_marked _ _ _ _ open_ready deep_open _ _ (c.checkpoint.ensures.state_after c.args.tokens.now) c.checkpoint.auto.scratch in
     body_ready _ _ _ _ _ c.line_at-n.result.a _ _ _ marked c.node-r.new.tokens c.node-r.new.scratch c.node-r.auto.scratch (fields c.node-r.new.s) c.node-r.result c.node-r.ensures 0 (omega arith)
 
 pub restore_on_err-returns : goal.restore_on_err-returns
@@ -445,7 +445,7 @@ restore_on_err-returns t c =
     let entered :
     opened (view c.args.tokens.now c.args.scratch.now (fields c.enter.new.s)) ≡ entering (ltb 0 c.args.depth) false (view c.args.tokens.now c.args.scratch.now (fields c.args.s.now)) =
     opened_by c.enter.result _ _ (c.enter.ensures c.args.tokens.now c.args.scratch.now) (ap not c.if-not-enter.false) in
-    by_tree _ _ _ _ _ _ _ _ _ (at_18 _ _ (tests _ _ _ _ c.requires.ready.0) _ c.requires.line.0 _ c.line_at-n.ensures c.requires.line.1).1 (restore_step _ _ _ _ _ c.line_at-n.result.a _ _ entered _ (c.checkpoint.ensures.by_index c.args.tokens.now) _ c.node-r.ensures _ (c.restore_on_err_end.ensures c.node-r.new.tokens))
+    by_tree _ _ _ _ _ _ _ _ _ (at_18 _ _ (tests _ _ _ _ c.requires.ready.0) _ c.requires.line.0 _ c.line_at-n.ensures c.requires.line.1).1 (restore_step _ _ _ _ _ c.line_at-n.result.a _ _ entered _ (c.checkpoint.ensures.state_after c.args.tokens.now) _ c.node-r.ensures _ (c.restore_on_err_end.ensures c.node-r.new.tokens))
 
 -- ── rule ──
 -- An open entry, the rule's Start, the body, `rule_end` from what was noted before: put together by `rule-step`.
@@ -498,7 +498,7 @@ rule-node-r-requires t c =
     let wide : state_size ≤ length c.enter.new.s = wide_on c.requires.ready.1 c.enter.auto.s in
     let started :
     Ok (view c.start_rule.new.tokens c.args.scratch.now (fields c.start_rule.new.s)) ≡ starting (setting_of c.args.nodes.now c.args.literals.now c.args.text.now c.args.room) c.args.line (view c.args.tokens.now c.args.scratch.now (fields c.enter.new.s)) =
-    told _ _ _ _ _ _ (c.start_rule.ensures.result_after (setting_of c.args.nodes.now c.args.literals.now c.args.text.now c.args.room) c.args.scratch.now refl) c.in-Ok.is in
+    told _ _ _ _ _ _ (c.start_rule.ensures.state_after (setting_of c.args.nodes.now c.args.literals.now c.args.text.now c.args.room) c.args.scratch.now refl) c.in-Ok.is in
     let started_ready :
     Ready c.args.nodes.now c.args.literals.now c.args.text.now c.start_rule.new.tokens c.args.scratch.now c.args.room (c.args.depth - 1) (view c.start_rule.new.tokens c.args.scratch.now (fields c.start_rule.new.s)) =
     begun _ _ _ _ open_ready _ _ _ started c.start_rule.auto.tokens in
@@ -518,7 +518,7 @@ rule-rule_end-requires-clause-rule_end_ready t c =
     let wide : state_size ≤ length c.enter.new.s = wide_on c.requires.ready.1 c.enter.auto.s in
     let started :
     Ok (view c.start_rule.new.tokens c.args.scratch.now (fields c.start_rule.new.s)) ≡ starting (setting_of c.args.nodes.now c.args.literals.now c.args.text.now c.args.room) c.args.line (view c.args.tokens.now c.args.scratch.now (fields c.enter.new.s)) =
-    told _ _ _ _ _ _ (c.start_rule.ensures.result_after (setting_of c.args.nodes.now c.args.literals.now c.args.text.now c.args.room) c.args.scratch.now refl) c.in-Ok.is in
+    told _ _ _ _ _ _ (c.start_rule.ensures.state_after (setting_of c.args.nodes.now c.args.literals.now c.args.text.now c.args.room) c.args.scratch.now refl) c.in-Ok.is in
     let started_ready :
     Ready c.args.nodes.now c.args.literals.now c.args.text.now c.start_rule.new.tokens c.args.scratch.now c.args.room (c.args.depth - 1) (view c.start_rule.new.tokens c.args.scratch.now (fields c.start_rule.new.s)) =
     begun _ _ _ _ open_ready _ _ _ started c.start_rule.auto.tokens in
@@ -531,7 +531,7 @@ rule-returns-in-Ok t c =
     opened_by c.enter.result _ _ (c.enter.ensures c.args.tokens.now c.args.scratch.now) (ap not c.if-not-enter.false) in
     let started :
     Ok (view c.start_rule.new.tokens c.args.scratch.now (fields c.start_rule.new.s)) ≡ starting (setting_of c.args.nodes.now c.args.literals.now c.args.text.now c.args.room) c.args.line (view c.args.tokens.now c.args.scratch.now (fields c.enter.new.s)) =
-    told _ _ _ _ _ _ (c.start_rule.ensures.result_after (setting_of c.args.nodes.now c.args.literals.now c.args.text.now c.args.room) c.args.scratch.now refl) c.in-Ok.is in
+    told _ _ _ _ _ _ (c.start_rule.ensures.state_after (setting_of c.args.nodes.now c.args.literals.now c.args.text.now c.args.room) c.args.scratch.now refl) c.in-Ok.is in
     by_tree _ _ _ _ _ _ _ _ _ (at_8 _ _ (tests _ _ _ _ c.requires.ready.0) _ c.requires.line.0 _ c.line_at-n.ensures c.requires.line.1).2 (rule_step _ _ _ _ _ c.line_at-n.result.b _ _ _ _ entered _ started _ c.node-r.ensures _ (held _ c.queue-q.ensures) _ (placed c.position-p.ensures) _ (c.note-noted.ensures c.args.scratch.now ∙ ap (λ (a : Attempts). noted c.position-p.result.0 (tried c.args.scratch.now a)) c.attempts.ensures) _ (c.rule_end.ensures (setting_of c.args.nodes.now c.args.literals.now c.args.text.now c.args.room) refl))
 
 pub rule-returns-in-Err : goal.rule-returns-in-Err
@@ -539,14 +539,14 @@ rule-returns-in-Err t c =
     let entered :
     opened (view c.args.tokens.now c.args.scratch.now (fields c.enter.new.s)) ≡ entering (ltb 0 c.args.depth) true (view c.args.tokens.now c.args.scratch.now (fields c.args.s.now)) =
     opened_by c.enter.result _ _ (c.enter.ensures c.args.tokens.now c.args.scratch.now) (ap not c.if-not-enter.false) in
-    by_tree _ _ _ _ _ _ _ _ _ (at_8 _ _ (tests _ _ _ _ c.requires.ready.0) _ c.requires.line.0 _ c.line_at-n.ensures c.requires.line.1).2 (rule_err _ _ _ _ _ c.line_at-n.result.b _ _ _ _ entered _ (told _ _ _ _ _ _ (c.start_rule.ensures.result_after (setting_of c.args.nodes.now c.args.literals.now c.args.text.now c.args.room) c.args.scratch.now refl) c.in-Err.is))
+    by_tree _ _ _ _ _ _ _ _ _ (at_8 _ _ (tests _ _ _ _ c.requires.ready.0) _ c.requires.line.0 _ c.line_at-n.ensures c.requires.line.1).2 (rule_err _ _ _ _ _ c.line_at-n.result.b _ _ _ _ entered _ (told _ _ _ _ _ _ (c.start_rule.ensures.state_after (setting_of c.args.nodes.now c.args.literals.now c.args.text.now c.args.room) c.args.scratch.now refl) c.in-Err.is))
 
 pub rule-returns-in-Stop : goal.rule-returns-in-Stop
 rule-returns-in-Stop t c =
     let entered :
     opened (view c.args.tokens.now c.args.scratch.now (fields c.enter.new.s)) ≡ entering (ltb 0 c.args.depth) true (view c.args.tokens.now c.args.scratch.now (fields c.args.s.now)) =
     opened_by c.enter.result _ _ (c.enter.ensures c.args.tokens.now c.args.scratch.now) (ap not c.if-not-enter.false) in
-    by_tree _ _ _ _ _ _ _ _ _ (at_8 _ _ (tests _ _ _ _ c.requires.ready.0) _ c.requires.line.0 _ c.line_at-n.ensures c.requires.line.1).2 (rule_stop _ _ _ _ _ c.line_at-n.result.b _ _ _ _ entered _ (told _ _ _ _ _ _ (c.start_rule.ensures.result_after (setting_of c.args.nodes.now c.args.literals.now c.args.text.now c.args.room) c.args.scratch.now refl) c.in-Stop.is))
+    by_tree _ _ _ _ _ _ _ _ _ (at_8 _ _ (tests _ _ _ _ c.requires.ready.0) _ c.requires.line.0 _ c.line_at-n.ensures c.requires.line.1).2 (rule_stop _ _ _ _ _ c.line_at-n.result.b _ _ _ _ entered _ (told _ _ _ _ _ _ (c.start_rule.ensures.state_after (setting_of c.args.nodes.now c.args.literals.now c.args.text.now c.args.room) c.args.scratch.now refl) c.in-Stop.is))
 
 -- ── sequence ──
 -- An open entry, a checkpoint, the body, `sequence_end`: each one's equation, put together by `sequence-step`.
@@ -592,7 +592,7 @@ sequence-node-r-requires t c =
     let wide : state_size ≤ length c.enter.new.s = wide_on c.requires.ready.1 c.enter.auto.s in
     let marked :
     Ready c.args.nodes.now c.args.literals.now c.args.text.now c.args.tokens.now c.checkpoint.new.scratch c.args.room (c.args.depth - 1) (view c.args.tokens.now c.checkpoint.new.scratch (fields c.checkpoint.new.s)) =
-    ready_marked _ _ _ _ open_ready deep_open _ _ (c.checkpoint.ensures.by_index c.args.tokens.now) c.checkpoint.auto.scratch in
+    ready_marked _ _ _ _ open_ready deep_open _ _ (c.checkpoint.ensures.state_after c.args.tokens.now) c.checkpoint.auto.scratch in
     (down _ _ _ t deep_open (at_9 _ _ (tests _ _ _ _ c.requires.ready.0) _ c.requires.line.0 _ c.line_at-n.ensures c.requires.line.1).0.high (tests _ _ _ _ c.requires.ready.0).few c.decreases, ((marked, (wide_on wide c.checkpoint.auto.s)), (at_9 _ _ (tests _ _ _ _ c.requires.ready.0) _ c.requires.line.0 _ c.line_at-n.ensures c.requires.line.1).0))
 
 pub sequence-sequence_end-requires-clause-end_ready : goal.sequence-sequence_end-requires-clause-end_ready
@@ -609,15 +609,15 @@ sequence-sequence_end-requires-clause-end_ready t c =
     let wide : state_size ≤ length c.enter.new.s = wide_on c.requires.ready.1 c.enter.auto.s in
     let marked :
     Ready c.args.nodes.now c.args.literals.now c.args.text.now c.args.tokens.now c.checkpoint.new.scratch c.args.room (c.args.depth - 1) (view c.args.tokens.now c.checkpoint.new.scratch (fields c.checkpoint.new.s)) =
-    ready_marked _ _ _ _ open_ready deep_open _ _ (c.checkpoint.ensures.by_index c.args.tokens.now) c.checkpoint.auto.scratch in
-    body_ready _ _ _ _ _ c.line_at-n.result.a _ _ _ marked c.node-r.new.tokens c.node-r.new.scratch c.node-r.auto.scratch (fields c.node-r.new.s) c.node-r.result c.node-r.ensures _ (marked_queue c.args.tokens.now c.args.scratch.now c.checkpoint.new.scratch (fields c.enter.new.s) (fields c.checkpoint.new.s) (c.checkpoint.ensures.by_index c.args.tokens.now) _ c.queue-q.ensures)
+    ready_marked _ _ _ _ open_ready deep_open _ _ (c.checkpoint.ensures.state_after c.args.tokens.now) c.checkpoint.auto.scratch in
+    body_ready _ _ _ _ _ c.line_at-n.result.a _ _ _ marked c.node-r.new.tokens c.node-r.new.scratch c.node-r.auto.scratch (fields c.node-r.new.s) c.node-r.result c.node-r.ensures _ (marked_queue c.args.tokens.now c.args.scratch.now c.checkpoint.new.scratch (fields c.enter.new.s) (fields c.checkpoint.new.s) (c.checkpoint.ensures.state_after c.args.tokens.now) _ c.queue-q.ensures)
 
 pub sequence-returns : goal.sequence-returns
 sequence-returns t c =
     let entered :
     opened (view c.args.tokens.now c.args.scratch.now (fields c.enter.new.s)) ≡ entering (ltb 0 c.args.depth) true (view c.args.tokens.now c.args.scratch.now (fields c.args.s.now)) =
     opened_by c.enter.result _ _ (c.enter.ensures c.args.tokens.now c.args.scratch.now) (ap not c.if-not-enter.false) in
-    by_tree _ _ _ _ _ _ _ _ _ (at_9 _ _ (tests _ _ _ _ c.requires.ready.0) _ c.requires.line.0 _ c.line_at-n.ensures c.requires.line.1).1 (sequence_step _ _ _ _ _ c.line_at-n.result.a _ _ entered _ (c.checkpoint.ensures.by_index c.args.tokens.now) _ c.node-r.ensures _ (held _ c.queue-q.ensures) _ (placed c.position-p.ensures) _ (c.sequence_end.ensures c.node-r.new.tokens))
+    by_tree _ _ _ _ _ _ _ _ _ (at_9 _ _ (tests _ _ _ _ c.requires.ready.0) _ c.requires.line.0 _ c.line_at-n.ensures c.requires.line.1).1 (sequence_step _ _ _ _ _ c.line_at-n.result.a _ _ entered _ (c.checkpoint.ensures.state_after c.args.tokens.now) _ c.node-r.ensures _ (held _ c.queue-q.ensures) _ (placed c.position-p.ensures) _ (c.sequence_end.ensures c.node-r.new.tokens))
 
 -- ── simple ──
 -- Each kind's function answers for its line; a call is evaluated as the rule that it names.

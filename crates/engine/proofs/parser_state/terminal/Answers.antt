@@ -44,14 +44,14 @@ overflow_cast-n c = let h = tag_low _ _ (tests _ _ _ _ c.requires.ready.0) _ c.r
 pub tag_node-requires-clause-state_size_in_bounds : goal.tag_node-requires-clause-state_size_in_bounds
 tag_node-requires-clause-state_size_in_bounds c = c.requires.ready.1
 
-pub tag_node-requires-clause-s_in_bounds : goal.tag_node-requires-clause-s_in_bounds
-tag_node-requires-clause-s_in_bounds c = omega (arith, place_of _ _ _ _ _ _ _ (fields c.args.s.now) c.requires.ready.0, c.requires.ready.0.area)
+pub tag_node-requires-clause-queue_fits : goal.tag_node-requires-clause-queue_fits
+tag_node-requires-clause-queue_fits c = omega (arith, place_of _ _ _ _ _ _ _ (fields c.args.s.now) c.requires.ready.0, c.requires.ready.0.area)
 
 pub position-p-requires : goal.position-p-requires
 position-p-requires c = c.requires.ready.1
 
-pub leaf-requires-clause-literals_value : goal.leaf-requires-clause-literals_value
-leaf-requires-clause-literals_value c = (c.requires.ready.0.fitting, c.requires.ready.0.moving)
+pub leaf-requires-clause-accepted : goal.leaf-requires-clause-accepted
+leaf-requires-clause-accepted c = (c.requires.ready.0.fitting, c.requires.ready.0.moving)
 
 pub leaf-requires-clause-line : goal.leaf-requires-clause-line
 leaf-requires-clause-line c = (c.requires.line.0, leaf_of _ _ (tests _ _ _ _ c.requires.ready.0) _ c.requires.line.0 _ c.line_at-n.ensures c.requires.line.1 c.requires.line.2 c.in_default.in_default-own.rest)
@@ -60,16 +60,16 @@ pub moved-requires : goal.moved-requires
 moved-requires c = c.requires.ready.1
 
 pub returns-in-15 : goal.returns-in-15
-returns-in-15 c = end_15 _ _ _ _ _ (tests _ _ _ _ c.requires.ready.0) _ c.requires.line.0 _ c.line_at-n.ensures c.in-15.is _ _ (c.stack_pop.ensures.by_index c.args.tokens.now)
+returns-in-15 c = end_15 _ _ _ _ _ (tests _ _ _ _ c.requires.ready.0) _ c.requires.line.0 _ c.line_at-n.ensures c.in-15.is _ _ (c.stack_pop.ensures.state_after c.args.tokens.now)
 
 pub returns-in-16 : goal.returns-in-16
 returns-in-16 c = end_16 _ _ _ _ _ (tests _ _ _ _ c.requires.ready.0) _ c.requires.line.0 _ c.line_at-n.ensures c.in-16.is c.ends_at-e.result c.ends_at-e.ensures _ _ (back c.ends_at-e.result.start (record { sfits = c.struct_told-1.given.0.1 })) (back c.ends_at-e.result.end (record { sfits = c.struct_told-1.given.1.0.1 })) _ _ (c.stack_match_peek_slice.ensures c.args.tokens.now)
 
 pub returns-in-17 : goal.returns-in-17
-returns-in-17 c = end_17 _ _ _ _ _ (tests _ _ _ _ c.requires.ready.0) _ c.requires.line.0 _ c.line_at-n.ensures c.in-17.is _ _ (c.stack_match_pop.ensures.by_index c.args.tokens.now)
+returns-in-17 c = end_17 _ _ _ _ _ (tests _ _ _ _ c.requires.ready.0) _ c.requires.line.0 _ c.line_at-n.ensures c.in-17.is _ _ (c.stack_match_pop.ensures.state_after c.args.tokens.now)
 
 pub returns-in-19 : goal.returns-in-19
-returns-in-19 c = end_19 _ _ _ _ _ (tests _ _ _ _ c.requires.ready.0) _ c.requires.line.0 _ c.line_at-n.ensures c.in-19.is _ _ (c.tag_node.ensures.by_index c.args.scratch.now)
+returns-in-19 c = end_19 _ _ _ _ _ (tests _ _ _ _ c.requires.ready.0) _ c.requires.line.0 _ c.line_at-n.ensures c.in-19.is _ _ (c.tag_node.ensures.state_after c.args.scratch.now)
 
 pub returns-in_default : goal.returns-in_default
 returns-in_default c = c.moved.ensures c.args.tokens.now c.args.scratch.now ∙ c.leaf.ensures _ _ _ c.requires.ready.0.fit (placed c.position-p.ensures)

@@ -3,5 +3,5 @@ use Rattle.reading.specs.Pest.{snapshot}
 use Rattle.engine.proofs.StateSteps.{stack_changed}
 use Rattle.engine.proofs.stack_state.checkpoint.Goals as goal
 
-pub returns-clause-by_index : goal.returns-clause-by_index
-returns-clause-by_index c = (stack_changed snapshot _ c.requires.state_ready.0 c.stack-v.ensures (c.snapshot-w.ensures.result_after, c.snapshot-w.ensures.outside_stack) c.set_stack.ensures).0
+pub returns-clause-state_after : goal.returns-clause-state_after
+returns-clause-state_after c = (stack_changed snapshot _ c.requires.state_ready.0 c.stack-v.ensures (c.snapshot-w.ensures.state_after, c.snapshot-w.ensures.outside_stack) c.set_stack.ensures).0

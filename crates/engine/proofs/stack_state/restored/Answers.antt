@@ -6,8 +6,8 @@ use Rattle.engine.proofs.stack_state.restored.Goals as goal
 pub restore-w-requires : goal.restore-w-requires
 restore-w-requires c = stack_read c.stack-v.ensures c.requires.state_ready
 
-pub returns-clause-by_index : goal.returns-clause-by_index
-returns-clause-by_index c = (stack_changed restore _ c.requires.state_ready c.stack-v.ensures (c.restore-w.ensures.result_after, c.restore-w.ensures.outside_stack) c.set_stack.ensures).0
+pub returns-clause-state_after : goal.returns-clause-state_after
+returns-clause-state_after c = (stack_changed restore _ c.requires.state_ready c.stack-v.ensures (c.restore-w.ensures.state_after, c.restore-w.ensures.outside_stack) c.set_stack.ensures).0
 
 pub returns-clause-outside_stack : goal.returns-clause-outside_stack
-returns-clause-outside_stack c = (stack_changed restore _ c.requires.state_ready c.stack-v.ensures (c.restore-w.ensures.result_after, c.restore-w.ensures.outside_stack) c.set_stack.ensures).1
+returns-clause-outside_stack c = (stack_changed restore _ c.requires.state_ready c.stack-v.ensures (c.restore-w.ensures.state_after, c.restore-w.ensures.outside_stack) c.set_stack.ensures).1
