@@ -2,6 +2,7 @@
 use crate::lines::lay;
 use crate::part::{number, number_or, part};
 use crate::show::put_run;
+use std::io;
 
 // Setting k of a case, or another where none is written. 0 is the depth limit, 1 the call limit, 2 to 4 are the lengths of tokens, report
 // and scratch, 5 and 6 those of text and literals, whose letters are then written over and over, and 7 that of the nodes.
@@ -22,10 +23,8 @@ fn fill(text: &mut [u8], letters: &[u8]) {
     if letters.len() == 0 {
         return;
     }
-    let mut i = 0;
-    while i < text.len() {
+    for i in 0..text.len() {
         text[i] = letters[i % letters.len()];
-        i += 1;
     }
 }
 
@@ -47,11 +46,18 @@ fn first_mut<'a>(area: &'a mut [u32], n: usize) -> &'a mut [u32] {
 }
 
 // The areas are full of nines before the run, so that what it writes is seen.
-fn with_areas<'a>(case: &[u8], nodes: &[i32], literals: &'a [u8], text: &'a [u8]) {
+fn with_areas<'a>(
+    rt: &impl Print,
+    case: &[u8],
+    nodes: &[i32],
+    literals: &'a [u8],
+    text: &'a [u8],
+) -> io::Result<()> {
     let mut tokens = [9u32; 40];
     let mut report = [9u32; 516];
     let mut scratch = [9u32; 4864];
     put_run(
+        rt,
         part(case, 0, b':'),
         nodes,
         literals,
@@ -61,7 +67,7 @@ fn with_areas<'a>(case: &[u8], nodes: &[i32], literals: &'a [u8], text: &'a [u8]
         first_mut(&mut tokens, length_or(case, 2, 12)),
         first_mut(&mut report, length_or(case, 3, 516)),
         first_mut(&mut scratch, length_or(case, 4, 4864)),
-    );
+    )
 }
 
 // "abc" stands for literals that are not written.
@@ -69,7 +75,7 @@ fn letters_or_abc<'a>(letters: &'a [u8], abc: &'a [u8]) -> &'a [u8] {
     if letters.len() == 0 { abc } else { letters }
 }
 
-fn with_texts(case: &[u8], nodes: &[i32]) {
+fn with_texts(rt: &impl Print, case: &[u8], nodes: &[i32]) -> io::Result<()> {
     let letters = part(case, 2, b':');
     let mut text = [0u8; 65536];
     fill(&mut text, letters);
@@ -79,16 +85,17 @@ fn with_texts(case: &[u8], nodes: &[i32]) {
     fill(&mut literals, known);
     let m = length_or(case, 6, known.len());
     with_areas(
+        rt,
         case,
         nodes,
         first_bytes(&literals, m),
         first_bytes(&text, n),
-    );
+    )
 }
 
-pub(crate) fn run_case(case: &[u8]) {
+pub(crate) fn run_case(rt: &impl Print, case: &[u8]) -> io::Result<()> {
     let mut nodes = [0i32; 16388];
     let lines = lay(&mut nodes, part(case, 1, b':'));
     let n = length_or(case, 7, lines as usize * 4);
-    with_texts(case, first(&nodes, n));
+    with_texts(rt, case, first(&nodes, n))
 }

@@ -65,10 +65,8 @@ fn shift_of_b(line: &[u8], a: u32) -> u32 {
 // The lines that one stands for, from an index on, and the index behind them.
 fn put_lines(nodes: &mut [i32], from: u32, line: &[u8]) -> u32 {
     let times = number_or(line, 4, 1);
-    let mut i = 0;
-    while i < times {
+    for i in 0..times {
         put_line(nodes, sum(from, i), line, i, shift_of_b(line, i));
-        i += 1;
     }
     sum(from, times)
 }
@@ -77,10 +75,8 @@ fn put_lines(nodes: &mut [i32], from: u32, line: &[u8]) -> u32 {
 pub(crate) fn lay(nodes: &mut [i32], lines: &[u8]) -> u32 {
     let count = parts(lines, b' ');
     let mut index = 0;
-    let mut i = 0;
-    while i < count {
+    for i in 0..count {
         index = put_lines(nodes, index, part(lines, i, b' '));
-        i += 1;
     }
     index
 }

@@ -2,6 +2,8 @@
 // document 01. A line that begins with # says what the cases behind it show.
 #![tactic(auto)]
 
+ghost use Rattle.std.specs.Prelude.{◌≤◌, length, IfOk};
+
 mod case;
 mod lines;
 mod part;
@@ -9,28 +11,44 @@ mod show;
 
 use crate::case::run_case;
 use crate::part::{part, parts};
+use std::io;
+use std::io::Read;
 
-fn run_line(line: &[u8]) {
+fn run_line(rt: &impl Print, line: &[u8]) -> io::Result<()> {
     if line.len() == 0 {
-        return;
+        return Ok(());
     }
     if line[0] == b'#' {
-        return;
+        return Ok(());
     }
-    run_case(line);
+    run_case(rt, line)
 }
 
-fn run_lines(input: &[u8]) {
+fn run_lines(rt: &impl Print, input: &[u8]) -> io::Result<()> {
     let count = parts(input, b'\n');
-    let mut i = 0;
-    while i < count {
-        run_line(part(input, i, b'\n'));
-        i += 1;
+    for i in 0..count {
+        run_line(rt, part(input, i, b'\n'))?;
     }
+    Ok(())
 }
 
-fn main() {
-    let mut input = io::large_buffer();
-    let n = io::read_full(0, &mut input);
-    run_lines(&input[..n]);
+// Reads until the buffer is full or the input ends; answers how many bytes that were.
+fn read_full(reader: &mut impl Read, buf: &mut [u8]) -> io::Result<usize>
+    ensures { IfOk result (λ n. n ≤ length buf.new) }
+{
+    let mut done = 0;
+    while done < buf.len() {
+        let n = reader.read(&mut buf[done..])?;
+        if n == 0 {
+            break;
+        }
+        done += n;
+    }
+    Ok(done)
+}
+
+fn main(rt: HostRuntime) -> io::Result<()> {
+    let mut input = [0u8; 65536];
+    let n = read_full(&mut rt.reader(), &mut input)?;
+    run_lines(&rt, &input[..n])
 }

@@ -7,14 +7,12 @@ pub(crate) fn parts(s: &[u8], mark: u8) -> usize {
         return 0;
     }
     let mut count = 1;
-    let mut i = 0;
-    while i < s.len() {
-        if s[i] == mark {
+    for b in s {
+        if *b == mark {
             if count < 1000000 {
                 count += 1;
             }
         }
-        i += 1;
     }
     count
 }
@@ -24,17 +22,15 @@ fn begin(s: &[u8], k: usize, mark: u8) -> usize
     ensures { result ≤ length s.now }
 {
     let mut left = k;
-    let mut i = 0;
-    while i < s.len() {
+    for i in 0..s.len() {
         if left == 0 {
             return i;
         }
         if s[i] == mark {
             left -= 1;
         }
-        i += 1;
     }
-    i
+    s.len()
 }
 
 // Where the part that begins at a place ends.
@@ -42,14 +38,12 @@ fn end(s: &[u8], from: usize, mark: u8) -> usize
     requires { from ≤ length s.now }
     ensures { (from ≤ result) × (result ≤ length s.now) }
 {
-    let mut i = from;
-    while i < s.len() {
+    for i in from..s.len() {
         if s[i] == mark {
             return i;
         }
-        i += 1;
     }
-    i
+    s.len()
 }
 
 // Part k, from 0; empty where there is none.
@@ -72,10 +66,8 @@ fn with_digit(n: u32, b: u8) -> u32 {
 
 pub(crate) fn number(s: &[u8]) -> u32 {
     let mut n = 0;
-    let mut i = 0;
-    while i < s.len() {
-        n = with_digit(n, s[i]);
-        i += 1;
+    for b in s {
+        n = with_digit(n, *b);
     }
     n
 }

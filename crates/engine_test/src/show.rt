@@ -3,19 +3,16 @@
 ghost use Rattle.std.specs.Prelude.{◌<◌, ◌≤◌, length};
 
 use engine::state::{Outcome, run};
+use std::io;
 
-const OUT: i32 = 1;
-
-fn put_number(n: u32) {
-    io::write_all(OUT, b" ");
-    io::print_decimal(OUT, n as u64);
+fn put_number(rt: &impl Print, n: u32) -> io::Result<()> {
+    print!(rt; " {n}")
 }
 
 // One number, so many times over.
-fn put_same(n: u32, times: usize) {
-    put_number(n);
-    io::write_all(OUT, b"*");
-    io::print_decimal(OUT, times as u64);
+fn put_same(rt: &impl Print, n: u32, times: usize) -> io::Result<()> {
+    put_number(rt, n)?;
+    print!(rt; "*{times}")
 }
 
 // Where the numbers equal to the one at a place end.
@@ -23,45 +20,45 @@ fn same_until(area: &[u32], from: usize) -> usize
     requires { from < length area.now }
     ensures { (from < result) × (result ≤ length area.now) }
 {
-    let mut i = from + 1;
-    while i < area.len() {
+    for i in from + 1..area.len() {
         if area[i] != area[from] {
             return i;
         }
-        i += 1;
     }
-    i
+    area.len()
 }
 
-fn put_area(area: &[u32]) {
-    io::write_all(OUT, b" |");
+fn put_area(rt: &impl Print, area: &[u32]) -> io::Result<()> {
+    rt.write_all(b" |")?;
     let mut i = 0;
     while i < area.len() {
         let next = same_until(area, i);
         if i + 3 < next {
-            put_same(area[i], next - i);
+            put_same(rt, area[i], next - i)?;
             i = next;
         } else {
-            put_number(area[i]);
+            put_number(rt, area[i])?;
             i += 1;
         }
     }
+    Ok(())
 }
 
-fn put_outcome(name: &[u8], o: Outcome) {
-    io::write_all(OUT, name);
-    io::write_all(OUT, b":");
-    put_number(o.number);
-    put_number(o.place);
-    put_number(o.count);
+fn put_outcome(rt: &impl Print, name: &[u8], o: Outcome) -> io::Result<()> {
+    rt.write_all(name)?;
+    rt.write_all(b":")?;
+    put_number(rt, o.number)?;
+    put_number(rt, o.place)?;
+    put_number(rt, o.count)
 }
 
-fn end_line() {
-    io::write_all(OUT, b"\n");
+fn end_line(rt: &impl Print) -> io::Result<()> {
+    rt.write_all(b"\n")
 }
 
 // A run in the areas that are lent, and its line.
 pub(crate) fn put_run<'a>(
+    rt: &impl Print,
     name: &[u8],
     nodes: &[i32],
     literals: &'a [u8],
@@ -71,10 +68,10 @@ pub(crate) fn put_run<'a>(
     tokens: &mut [u32],
     report: &mut [u32],
     scratch: &mut [u32],
-) {
+) -> io::Result<()> {
     let o = run(nodes, literals, text, depth, calls, tokens, report, scratch);
-    put_outcome(name, o);
-    put_area(tokens);
-    put_area(report);
-    end_line();
+    put_outcome(rt, name, o)?;
+    put_area(rt, tokens)?;
+    put_area(rt, report)?;
+    end_line(rt)
 }

@@ -4,7 +4,8 @@
 mod print;
 
 use crate::print::print_folder;
+use std::io;
 
-fn main() {
-    print_folder();
+fn main(rt: HostRuntime) -> io::Result<()> {
+    print_folder(&rt)
 }

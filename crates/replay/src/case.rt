@@ -28,11 +28,9 @@ fn behind_node(record: &[u8], at: usize, given: usize, i: usize) -> usize {
 // The nodes, those given from word `from` on; answers the place behind them.
 pub(crate) fn put_nodes(record: &[u8], from: usize, given: usize, nodes: &mut [i32]) -> usize {
     let mut at = from;
-    let mut i = 0;
-    while i < nodes.len() {
+    for i in 0..nodes.len() {
         nodes[i] = node_number(record, at, given, i);
         at = behind_node(record, at, given, i);
-        i += 1;
     }
     at
 }
@@ -46,10 +44,8 @@ fn byte_or_a(record: &[u8], at: usize, given: usize, i: usize) -> u8 {
 
 // Literal or text bytes: those given from word `at` on, then the letter a.
 pub(crate) fn put_bytes(record: &[u8], at: usize, given: usize, bytes: &mut [u8]) {
-    let mut i = 0;
-    while i < bytes.len() {
+    for i in 0..bytes.len() {
         bytes[i] = byte_or_a(record, at, given, i);
-        i += 1;
     }
 }
 
@@ -59,9 +55,5 @@ pub(crate) fn behind_bytes(at: usize, given: usize) -> usize {
 }
 
 pub(crate) fn fill(area: &mut [u32]) {
-    let mut i = 0;
-    while i < area.len() {
-        area[i] = FILL;
-        i += 1;
-    }
+    area.fill(FILL);
 }

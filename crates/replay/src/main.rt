@@ -2,6 +2,8 @@
 // both areas with the recorded ones, which are pest's wherever pest has an answer. Writes a line a file.
 #![tactic(auto)]
 
+ghost use Rattle.std.specs.Prelude.{◌≤◌, length};
+
 mod case;
 mod expected;
 mod record;
@@ -10,8 +12,9 @@ mod replay;
 use crate::record::{COUNT, NUMBER, PLACE, RUNNING, after, end_of, word};
 use crate::replay::{Replayed, outcome_agrees, replay};
 use engine::state::Outcome;
-
-const OUT: i32 = 1;
+use std::io::Read;
+use std::rt::Files;
+use std::{fs, io};
 
 #[derive(Clone, Copy)]
 struct Tally {
@@ -19,15 +22,14 @@ struct Tally {
     differ: usize,
 }
 
-fn put_number(n: u64) {
-    io::write_all(OUT, b" ");
-    io::print_decimal(OUT, n);
+fn put_number(rt: &impl Print, n: u64) -> io::Result<()> {
+    print!(rt; " {n}")
 }
 
-fn put_outcome(o: Outcome) {
-    put_number(o.number as u64);
-    put_number(o.place as u64);
-    put_number(o.count as u64);
+fn put_outcome(rt: &impl Print, o: Outcome) -> io::Result<()> {
+    put_number(rt, o.number as u64)?;
+    put_number(rt, o.place as u64)?;
+    put_number(rt, o.count as u64)
 }
 
 fn recorded(record: &[u8]) -> Outcome {
@@ -38,23 +40,23 @@ fn recorded(record: &[u8]) -> Outcome {
     }
 }
 
-fn tell_difference(record: &[u8], o: Outcome) {
-    io::write_all(OUT, b"answer");
-    put_number(word(record, RUNNING) as u64);
-    io::write_all(OUT, b": recorded");
-    put_outcome(recorded(record));
-    io::write_all(OUT, b", came");
-    put_outcome(o);
+fn tell_difference(rt: &impl Print, record: &[u8], o: Outcome) -> io::Result<()> {
+    rt.write_all(b"answer")?;
+    put_number(rt, word(record, RUNNING) as u64)?;
+    rt.write_all(b": recorded")?;
+    put_outcome(rt, recorded(record))?;
+    rt.write_all(b", came")?;
+    put_outcome(rt, o)?;
     if outcome_agrees(record, o) {
-        io::write_all(OUT, b", and an area differs");
+        rt.write_all(b", and an area differs")?;
     }
-    io::write_all(OUT, b"\n");
+    rt.write_all(b"\n")
 }
 
-fn tell_no_room(record: &[u8]) {
-    io::write_all(OUT, b"answer");
-    put_number(word(record, RUNNING) as u64);
-    io::write_all(OUT, b": longer than this program's areas\n");
+fn tell_no_room(rt: &impl Print, record: &[u8]) -> io::Result<()> {
+    rt.write_all(b"answer")?;
+    put_number(rt, word(record, RUNNING) as u64)?;
+    rt.write_all(b": longer than this program's areas\n")
 }
 
 fn agreed(t: Tally) -> Tally {
@@ -72,24 +74,24 @@ fn differed(t: Tally) -> Tally {
 }
 
 // Only the first difference of a file is told.
-fn counted(t: Tally, record: &[u8], r: Replayed) -> Tally {
+fn counted(rt: &impl Print, t: Tally, record: &[u8], r: Replayed) -> io::Result<Tally> {
     match r {
-        Replayed::Agrees => agreed(t),
+        Replayed::Agrees => Ok(agreed(t)),
         Replayed::Differs(o) => {
             if t.differ == 0 {
-                tell_difference(record, o);
+                tell_difference(rt, record, o)?;
             }
-            differed(t)
+            Ok(differed(t))
         }
         Replayed::NoRoom => {
-            tell_no_room(record);
-            differed(t)
+            tell_no_room(rt, record)?;
+            Ok(differed(t))
         }
     }
 }
 
 // A file that ends within a record has one that differs.
-fn replay_file(file: &[u8]) -> Tally {
+fn replay_file(rt: &impl Print, file: &[u8]) -> io::Result<Tally> {
     let mut t = Tally {
         agree: 0,
         differ: 0,
@@ -98,40 +100,62 @@ fn replay_file(file: &[u8]) -> Tally {
     while at < file.len() {
         let end = end_of(file, at);
         if end <= at {
-            io::write_all(OUT, b"a record is not whole\n");
-            return differed(t);
+            rt.write_all(b"a record is not whole\n")?;
+            return Ok(differed(t));
         }
         let record = &file[at..end];
-        t = counted(t, record, replay(record));
+        t = counted(rt, t, record, replay(record))?;
         at = end;
     }
-    t
+    Ok(t)
 }
 
-fn tell(name: &[u8], t: Tally) {
-    io::write_all(OUT, name);
-    io::write_all(OUT, b":");
-    put_number(t.agree as u64);
-    io::write_all(OUT, b" answers agree,");
-    put_number(t.differ as u64);
-    io::write_all(OUT, b" differ\n");
+fn tell(rt: &impl Print, name: &str, t: Tally) -> io::Result<()> {
+    print!(rt; "{name}:")?;
+    put_number(rt, t.agree as u64)?;
+    rt.write_all(b" answers agree,")?;
+    put_number(rt, t.differ as u64)?;
+    rt.write_all(b" differ\n")
+}
+
+// Reads until the buffer is full, the file ends or a read fails; answers how many bytes that were.
+fn read_full(file: &mut impl Read, buf: &mut [u8]) -> usize
+    ensures { result ≤ length buf.new }
+{
+    let mut done = 0;
+    while done < buf.len() {
+        match file.read(&mut buf[done..]) {
+            Ok(n) if 0 < n => done += n,
+            _ => break,
+        }
+    }
+    done
+}
+
+// The file's first bytes, and how many; a file that is missing is empty.
+fn load(rt: &impl Files, name: &str, buf: &mut [u8]) -> usize
+    ensures { result ≤ length buf.new }
+{
+    match fs::open(rt, name) {
+        Ok(mut file) => read_full(&mut file, buf),
+        Err(_) => 0,
+    }
 }
 
 // A file that is missing has no answers. One has 65,536 bytes at most.
-fn replay_named(name: &[u8]) {
-    let mut file = io::large_buffer();
-    let fd = os::open_read(name);
-    let n = io::read_full(fd, &mut file);
-    libc::close(fd);
-    tell(name, replay_file(&file[..n]));
+fn replay_named(rt: &(impl Files + Print), name: &str) -> io::Result<()> {
+    let mut file = [0u8; 65536];
+    let n = load(rt, name, &mut file);
+    let t = replay_file(rt, &file[..n])?;
+    tell(rt, name, t)
 }
 
-fn main() {
-    replay_named(b"answers-01.bin");
-    replay_named(b"answers-02.bin");
-    replay_named(b"answers-03.bin");
-    replay_named(b"answers-04.bin");
-    replay_named(b"answers-05.bin");
-    replay_named(b"answers-06.bin");
-    replay_named(b"answers-long.bin");
+fn main(rt: HostRuntime) -> io::Result<()> {
+    replay_named(&rt, "answers-01.bin")?;
+    replay_named(&rt, "answers-02.bin")?;
+    replay_named(&rt, "answers-03.bin")?;
+    replay_named(&rt, "answers-04.bin")?;
+    replay_named(&rt, "answers-05.bin")?;
+    replay_named(&rt, "answers-06.bin")?;
+    replay_named(&rt, "answers-long.bin")
 }

@@ -1,6 +1,5 @@
 // Runs recorded cases and holds what came against what is recorded.
 ghost use Rattle.std.specs.Prelude.{◌≡◌, ◌≤◌, length, take};
-ghost use Rattle.io.specs.Counts.{IsPrefixLen};
 
 use crate::case::{behind_bytes, fill, put_bytes, put_nodes};
 use crate::expected::{Area, expected};
@@ -29,12 +28,10 @@ pub(crate) fn outcome_agrees(record: &[u8], o: Outcome) -> bool {
 
 // To the area's end, also where the run has nothing to write.
 fn area_agrees(record: &[u8], lists: usize, which: Area, area: &[u32]) -> bool {
-    let mut i = 0;
-    while i < area.len() {
+    for i in 0..area.len() {
         if area[i] != expected(record, lists, which, i) {
             return false;
         }
-        i += 1;
     }
     true
 }
@@ -112,8 +109,7 @@ fn least(a: usize, b: usize) -> usize
     if a < b { a } else { b }
 }
 
-// So many of an area's places as a case wants, or all where it has fewer. The clause is io's `Counts`, here of signed numbers: what
-// lending that part asks.
+// So many of an area's places as a case wants, or all where it has fewer. The clause is what lending that part asks.
 fn of_nodes(wanted: usize, area: &[i32]) -> usize
     ensures { (result ≤ length area.now) × (result ≡ length (take result area.now)) }
 {
@@ -121,13 +117,13 @@ fn of_nodes(wanted: usize, area: &[i32]) -> usize
 }
 
 fn of_bytes(wanted: usize, area: &[u8]) -> usize
-    ensures { IsPrefixLen result area.now }
+    ensures { (result ≤ length area.now) × (result ≡ length (take result area.now)) }
 {
     least(wanted, area.len())
 }
 
 fn of_numbers(wanted: usize, area: &[u32]) -> usize
-    ensures { IsPrefixLen result area.now }
+    ensures { (result ≤ length area.now) × (result ≡ length (take result area.now)) }
 {
     least(wanted, area.len())
 }

@@ -1,3 +1,0 @@
-pub mod LentPosition
-pub mod PlainHolder
-pub mod TextHolder
