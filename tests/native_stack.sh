@@ -1,6 +1,6 @@
 #!/usr/bin/env bash
 # Measures the native stack of a run, which no proof sees: what README.md, "Native stack", and docs/DECISIONS.md, 25, say. Not part of the
-# gate. Needs target/staticlib/libparser_core.a (bash tools/staticlib.sh), target/bin/planread (rt check planread) and gcc.
+# gate. Needs target/staticlib/libparser_core.a (bash tools/staticlib.sh), crates/planread/out/planread (rt run in crates/planread) and gcc.
 #
 # The grammar is that of rust/parser-core/c/native_stack.c: a rule that calls itself, from inside so many nests, until the depth limit
 # refuses it (12, 0, 0). A nest is a line of kind 6 on the left of one of kind 7, with the rest on its right.
@@ -30,7 +30,7 @@ write_sheet() { # NESTS
 
 planread_runs() { # KB NESTS
     write_sheet "$2"
-    [ "$( (ulimit -S -s "$1" && cd "$work" && "$root/target/bin/planread") 2>/dev/null)" = "$answer" ]
+    [ "$( (ulimit -S -s "$1" && cd "$work" && "$root/crates/planread/out/planread") 2>/dev/null)" = "$answer" ]
 }
 
 # The least number above LOW, up to HIGH, for which a command holds, by halves; the number goes behind the command.

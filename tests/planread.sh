@@ -135,10 +135,12 @@ first_run() {
 #!/usr/bin/env bash
 # rt run in crates/planread: two crates, then the rest; or a crate that is not proved.
 touch "$MARK"
+echo "rt: chose --jobs 2 for matching"
 echo "fn matching::utf8: proved"
 echo "logic=proved functions=34"
 sleep 1
-echo "logic=proved functions=0"
+echo "rt: reading: begins with what a check kept in another folder"
+echo "rt: chose --jobs 2 for reading"
 sleep 1
 [ -z "$BREAK" ] || { echo "logic=not-proved"; exit 1; }
 mkdir -p out
