@@ -1,5 +1,4 @@
-use borrow.Author.Rules.{rules}
-use Prim.Native.Nat.{ℕ, ◌-◌, ◌≤◌}
+use Prim.Native.Nat.{◌-◌, ◌≤◌}
 use mathlib.Core.Path.{◌≡◌, refl, ap, sym, ◌∙◌, subst}
 use mathlib.Core.Bool.{true, false, not}
 use lib.Dec.{ltb, eqb}
@@ -9,16 +8,16 @@ use Rattle.engine.specs.Areas.{view, view_end}
 use Rattle.engine.specs.Entry.{opened, entering}
 use Rattle.engine.specs.Evaluation.{Ready, evaluated, setting_of}
 use Rattle.engine.proofs.Steps.{opened_by, refused_by, wide_on, deep, down, tests, ready_open, ready_less, ready_atom, atomic_step, atomic_refused, mark_of, ready_marked, ready_looking, body_ready, placed, lookahead_step, lookahead_refused, optional_step, optional_refused, told, refused_test, passed_test, restore_step, restore_refused, few_of, recording_of, begun, body_rule, place_of, held, rule_step, rule_refused, rule_err, rule_stop, marked_queue, sequence_step, sequence_refused, body_push, push_step, push_refused}
-use Rattle.engine.proofs.LineSteps.{whole, few, by_tree, at_13, at_12, at_11, fork_at, at_10, moves_10, at_18, at_8, at_9, kind_of, rule_line, rule_runs, none_opened, at_14}
+use Rattle.engine.proofs.LineSteps.{whole, by_tree, at_13, at_12, at_11, fork_at, at_10, moves_10, at_18, at_8, at_9, rule_line, rule_runs, at_14}
 use Rattle.reading.specs.Grammar.{tree_at, kind_at}
 use native.Mathlib.Omega.{arith}
 use Rattle.engine.proofs.Climbs.{goes_yes, goes_no, goes_fork}
-use Rattle.engine.proofs.Walks.{Climbing, slopes, low_line, low_upto, forks_below, line_whole, first_climb, go_ready, climb_in, climb_line, climb_go, climb_stay, climbed, Walking, first_walk, top_in, top_stay, top_go}
+use Rattle.engine.proofs.Walks.{slopes, low_line, low_upto, forks_below, line_whole, first_climb, go_ready, climb_in, climb_line, climb_go, climb_stay, climbed, Walking, top_in, top_stay, top_go}
 use Rattle.reading.specs.declared.parser_state.Lookahead.{Lookahead}
 use Rattle.engine.proofs.LeafSteps.{walk_on, answers}
 use Rattle.engine.specs.Spine.{Fork}
 use Rattle.engine.specs.Leaves.{Walked, answer}
-use Rattle.engine.proofs.Turns.{Turning, first_turn, turned, next_turn, repeat_err, repeat_stop, repeat_refused}
+use Rattle.engine.proofs.Turns.{first_turn, turned, next_turn, repeat_err, repeat_stop, repeat_refused}
 use Rattle.matching.specs.declared.position.TokenIndex.{TokenIndex}
 use Rattle.engine.specs.declared.attempts.Attempts.{Attempts}
 use Rattle.reading.specs.Ending.{Ok}
