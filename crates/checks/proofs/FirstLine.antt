@@ -1,7 +1,7 @@
 -- A search over lines from the first on: what the loop has still to search gives the answer of the whole search.
 use mathlib.Core.Path.{◌≡◌, ap, ◌∙◌}
 use mathlib.Core.Bool.{Bool, true, false}
-use mathlib.Core.Option.{none, some}
+use Rattle.std.specs.Prelude.{None, Some}
 use Prim.Native.Nat.{ℕ, zero, suc, ◌+◌, ◌-◌, ◌≤◌, ◌<◌}
 use native.Mathlib.Omega.{arith}
 use native.Mathlib.Numerals.{add-one}
@@ -19,14 +19,14 @@ module _ (test : ℕ → Bool) where
   pub come_first : (m : ℕ) → Come m 1
   come_first m = let e : m + 1 - 1 ≡ m = omega arith in record { low = omega arith; high = omega arith; rest = ap (first_line test 1) e }
 
-  here : (l n : ℕ) → 0 < n → test l ≡ true → some l ≡ first_line test l n
+  here : (l n : ℕ) → 0 < n → test l ≡ true → Some l ≡ first_line test l n
   here l zero h e = absurd (omega arith)
   here l (suc n) h e = rw e
 
   later : (l n n' : ℕ) → n ≡ suc n' → test l ≡ false → first_line test (l + 1) n' ≡ first_line test l n
   later l n n' q e = rw (q, e, add-one l)
 
-  over : (l n : ℕ) → n ≡ 0 → none ≡ first_line test l n
+  over : (l n : ℕ) → n ≡ 0 → None ≡ first_line test l n
   over l n e = rw e
 
   module _ (m l : ℕ) (c : Come m l) where

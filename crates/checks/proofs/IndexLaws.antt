@@ -2,7 +2,7 @@
 use Rattle.std.specs.Prelude.{if◌then◌else◌}
 use mathlib.Core.Path.{◌≡◌, ap, ◌∙◌}
 use mathlib.Core.Bool.{true, false, true≢false, ◌||◌}
-use mathlib.Core.Option.{Option, none, some}
+use Rattle.std.specs.Prelude.{Option, None, Some}
 use Prim.Native.Nat.{ℕ, suc, ◌+◌, ◌-◌, ◌≤◌, ◌<◌}
 use native.Mathlib.Omega.{arith}
 use native.Mathlib.Nat.{zero-add}
@@ -89,10 +89,10 @@ plus_at x len f (plus n) l =
     rw (e, le-leb n len (omega arith))
 
 -- ── Field c of kind 16 ──
-pub end_given : (i : ℤ) (c len : ℕ) (r : Index) → c < 2 → r ≡ index_of (index_in len i) → r ≡ index_of (end_in len (if ltb c 2 then some i else none))
+pub end_given : (i : ℤ) (c len : ℕ) (r : Index) → c < 2 → r ≡ index_of (index_in len i) → r ≡ index_of (end_in len (if ltb c 2 then Some i else None))
 end_given i c len r l e = rw (lt-ltb c 2 l) e
 
-pub end_none : (i : ℤ) (c len : ℕ) → 2 ≤ c → At len ≡ index_of (end_in len (if ltb c 2 then some i else none))
+pub end_none : (i : ℤ) (c len : ℕ) → 2 ≤ c → At len ≡ index_of (end_in len (if ltb c 2 then Some i else None))
 end_none i c len l = rw (le-ltb c 2 l)
 
 pub down_one : (c : ℕ) → c ≡ 1 → true ≡ (eqb c 1 || eqb c 3)

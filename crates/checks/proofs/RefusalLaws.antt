@@ -2,7 +2,7 @@
 use mathlib.Core.Path.{◌≡◌, refl, sym, ap, ◌∙◌}
 use mathlib.Core.Bool.{Bool, true, false, ◌&&◌}
 use mathlib.Core.List.{List}
-use mathlib.Core.Option.{Option, none, some}
+use Rattle.std.specs.Prelude.{Option, None, Some}
 use Prim.Native.Nat.{ℕ, ◌*◌, ◌≤◌, ◌<◌}
 use native.Mathlib.Omega.{arith}
 use lib.Dec.{eqb, leb}
@@ -50,13 +50,13 @@ module _ (text : List ℕ) (depth report scratch : ℕ) {g : Bool} (e : g ≡ go
   later_none f d a = let z : good_text text ≡ true = sym e ∙ f in sym (rw (z, d, a))
 
 -- ── All tests ──
-pub found : (o : Option ℕ) (p : ℕ) → Fault.At p ≡ fault_of o → o ≡ some p
-found none p e = let z : ◌≡◌ {A = ℕ} 0 1 = cc in absurd (omega arith)
-found (some q) p e = let z : q ≡ p = cc in ap some z
+pub found : (o : Option ℕ) (p : ℕ) → Fault.At p ≡ fault_of o → o ≡ Some p
+found None p e = let z : ◌≡◌ {A = ℕ} 0 1 = cc in absurd (omega arith)
+found (Some q) p e = let z : q ≡ p = cc in ap Some z
 
-pub passed : (o : Option ℕ) → Fault.No ≡ fault_of o → o ≡ none
-passed none e = refl
-passed (some q) e = let z : ◌≡◌ {A = ℕ} 0 1 = cc in absurd (omega arith)
+pub passed : (o : Option ℕ) → Fault.No ≡ fault_of o → o ≡ None
+passed None e = refl
+passed (Some q) e = let z : ◌≡◌ {A = ℕ} 0 1 = cc in absurd (omega arith)
 
 module _ (ns : List ℤ) (literals text : List ℕ) (depth report scratch : ℕ) where
   abbrev All : Refused
@@ -93,6 +93,6 @@ few_nodes ns literals m =
     let w : (1 ≤ line_count ns) × (line_count ns ≤ 4096) = within_true 1 4096 (line_count ns) (and_right (eqb (line_count ns * 4) (length ns)) _ t) in
     omega (arith, w.1)
 
-pub not_refused : (o : Option Refusal) → No ≡ refused_of o → o ≡ none
-not_refused none e = refl
-not_refused (some r) e = let z : ◌≡◌ {A = ℕ} 0 1 = cc in absurd (omega arith)
+pub not_refused : (o : Option Refusal) → No ≡ refused_of o → o ≡ None
+not_refused None e = refl
+not_refused (Some r) e = let z : ◌≡◌ {A = ℕ} 0 1 = cc in absurd (omega arith)

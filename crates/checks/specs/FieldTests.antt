@@ -1,6 +1,6 @@
 -- How the code's structs stand for a field and for what a test finds: what the contracts of src/node.rt, grammar.rt and nullable.rt cite.
 use Rattle.std.specs.Prelude.{Bool, ◌&&◌, not, List, ℕ, ◌+◌, ◌-◌, eqb, ℤ}
-use Rattle.std.proofs.Math.Option.{Option, none, some}
+use Rattle.std.specs.Prelude.{Option, None, Some}
 use Rattle.matching.specs.Utf8.{within}
 use Rattle.checks.specs.declared.node.Field.{Field}
 use Rattle.checks.specs.declared.grammar.Tests.{Tests}
@@ -15,8 +15,8 @@ field_of z = record { count = count z; size = natural z }
 
 -- The line that a test finds, if it finds one.
 abbrev pub fault_of : Option ℕ → Fault
-fault_of none = No
-fault_of (some p) = At p
+fault_of None = No
+fault_of (Some p) = At p
 
 -- A repeat whose body is flagged.
 abbrev pub flagged_repeat : List ℤ → List Bool → (line : ℕ) → Bool

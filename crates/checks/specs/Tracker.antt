@@ -1,6 +1,6 @@
 -- How the code's tracker stands for the reading's, and what an entry makes of it; and for pest's, as engine's state does.
 use Rattle.std.specs.Prelude.{Bool, true, false, ℕ, zero, suc, if◌then◌else◌}
-use Rattle.std.proofs.Math.Option.{Option, none, some}
+use Rattle.std.specs.Prelude.{Option, None, Some}
 use Rattle.reading.specs.declared.call_limit_tracker.LimitKind.{LimitKind}
 use Rattle.reading.specs.declared.call_limit_tracker.LimitKind.TheVariants.{Stack}
 use Rattle.checks.specs.declared.call_limit_tracker.LimitReached.{LimitReached}
@@ -12,12 +12,12 @@ use Rattle.reading.specs.Reading.{Tracker, Entry, entered, refused, enter}
 use Rattle.reading.specs.Pest as Pest
 
 abbrev pub reached_of : LimitReached → Option LimitKind
-reached_of Reached.No = none
-reached_of (Reached.By k) = some k
+reached_of Reached.No = None
+reached_of (Reached.By k) = Some k
 
 abbrev pub reached_by : Option LimitKind → LimitReached
-reached_by none = Reached.No
-reached_by (some k) = Reached.By k
+reached_by None = Reached.No
+reached_by (Some k) = Reached.By k
 
 -- ── The reading's tracker ──
 abbrev pub reading_of : Code.CallLimitTracker → Tracker
@@ -57,8 +57,8 @@ by_depth room t next = if room then Yes next else No (record { current = t.curre
 
 -- ── pest's tracker ──
 abbrev pub limit_of : (current limit : ℕ) → Option Pest.CallLimit
-limit_of n zero = none
-limit_of n (suc l) = some (record { current = n; limit = suc l })
+limit_of n zero = None
+limit_of n (suc l) = Some (record { current = n; limit = suc l })
 
 abbrev pub tracker_of : Code.CallLimitTracker → Pest.CallLimitTracker
 tracker_of t = record { current_call_limit = limit_of t.current t.limit; limit_reached = reached_of t.reached }

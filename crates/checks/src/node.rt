@@ -1,6 +1,5 @@
 // The fields of node lines: signed numbers. All signed arithmetic of the grammar stands here.
 ghost use Rattle.std.specs.Prelude.{◌≡◌, false, ◌||◌, ◌*◌, ◌≤◌, ◌<◌, eqb, ltb, pos, length, get_or, if◌then◌else◌};
-ghost use Rattle.std.proofs.Math.Option.{none, some};
 ghost use Rattle.reading.specs.Grammar.{natural, kind_at, row};
 ghost use Rattle.reading.specs.Reading.{index_in, end_in};
 ghost use Rattle.checks.specs.FieldTests.{field_of};
@@ -84,7 +83,7 @@ pub fn normalize_index(i: i32, len: usize) -> Index
 
 // Field c of kind 16: "0 bottom up, 1 top down; 2, 3 the same without end".
 pub fn normalize_end(i: i32, c: usize, len: usize) -> Index
-    ensures { result ≡ index_of (end_in len (if ltb c 2 then some i else none)) }
+    ensures { result ≡ index_of (end_in len (if ltb c 2 then Some i else None)) }
 {
     if c < 2 {
         normalize_index(i, len)

@@ -3,7 +3,7 @@ use Rattle.std.specs.Prelude.{if◌then◌else◌}
 use mathlib.Core.Path.{◌≡◌, refl, sym, ap, ◌∙◌}
 use mathlib.Core.Bool.{Bool, true, false, not}
 use mathlib.Core.List.{List}
-use mathlib.Core.Option.{Option, none, some}
+use Rattle.std.specs.Prelude.{Option, None, Some}
 use Prim.Native.Nat.{ℕ, ◌+◌, ◌-◌, ◌≤◌}
 use native.Mathlib.Omega.{arith}
 use lib.ListN.{take, drop}
@@ -70,8 +70,8 @@ pub moved_by : (o : Option ℕ) (q : Matched) (m : ParserState) → q ≡ matche
 moved_by o q m e = ap (λ (x : Matched). moved (match_of x) m) e ∙ go o
   where
     go : (y : Option ℕ) → moved (match_of (matched y)) m ≡ moved y m
-    go none = refl
-    go (some p) = refl
+    go None = refl
+    go (Some p) = refl
 
 module _ (text literals : List ℕ) (offset size p : ℕ) (q : Matched) (m : ParserState) (folded : Bool) where
   same_size : offset + size - offset ≡ size

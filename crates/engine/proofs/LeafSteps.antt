@@ -5,7 +5,7 @@ use mathlib.Core.Path.{◌≡◌, refl, sym, ap, subst, ◌∙◌}
 use mathlib.Core.Bool.{Bool, true, false, true≢false, false≢true}
 use mathlib.Core.Logic.{inl, inr}
 use mathlib.Core.List.{List}
-use mathlib.Core.Option.{Option, none, some}
+use Rattle.std.specs.Prelude.{Option, None, Some}
 use Prim.Native.Nat.{ℕ, ◌≤◌, ◌<◌}
 use native.Mathlib.Omega.{arith}
 use lib.IntN.{ℤ}
@@ -42,7 +42,7 @@ use Rattle.engine.proofs.Walks.{Walking, forked}
 five : (k : ℕ) → 1 ≤ k → k ≤ 5 → (k ≡ 1 → ⊥) → (k ≡ 2 → ⊥) → (k ≡ 3 → ⊥) → (k ≡ 4 → ⊥) → k ≡ 5
 five k lo hi a b c d = omega arith
 
-at_end_moves : (b : Bool) (m : ParserState) → Pest.moved (if b then some m.position else none) m ≡ (if b then Ok m else Err m)
+at_end_moves : (b : Bool) (m : ParserState) → Pest.moved (if b then Some m.position else None) m ≡ (if b then Ok m else Err m)
 at_end_moves true m = refl
 at_end_moves false m = refl
 
@@ -70,10 +70,10 @@ module _ (ns : List ℤ) (literals text : List ℕ) (capacity d : ℕ) (w : Acce
         end_4 ns literals text capacity d w l i n e q m f (Pest.moved (match_of r) m)
         (moved_by (Position.skip text n.a p) r m z ∙ ap (λ (k : ℕ). Pest.moved (Position.skip text n.a k) m) (sym x))
 
-    pub leaf_5 : n.kind ≡ 5 → (r : Matched) → match_of r ≡ (if Position.at_end text p then some p else none) → Pest.moved (match_of r) m ≡ At m
+    pub leaf_5 : n.kind ≡ 5 → (r : Matched) → match_of r ≡ (if Position.at_end text p then Some p else None) → Pest.moved (match_of r) m ≡ At m
     leaf_5 q r z =
         end_5 ns literals text capacity d w l i n e q m (Pest.moved (match_of r) m)
-        (ap (λ (o : Option ℕ). Pest.moved o m) (z ∙ ap (λ (k : ℕ). if Position.at_end text k then some k else none) (sym x)) ∙ at_end_moves (Position.at_end text m.position) m)
+        (ap (λ (o : Option ℕ). Pest.moved o m) (z ∙ ap (λ (k : ℕ). if Position.at_end text k then Some k else None) (sym x)) ∙ at_end_moves (Position.at_end text m.position) m)
 
   -- The kind that is left; `rest` as the code's match gives it.
   pub fifth : kind_at ns l ≤ 5 → (((Unit {0} × (n.kind ≡ 1 → ⊥)) × (n.kind ≡ 2 → ⊥)) × (n.kind ≡ 3 → ⊥)) × (n.kind ≡ 4 → ⊥) → n.kind ≡ 5

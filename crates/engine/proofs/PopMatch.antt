@@ -4,7 +4,7 @@ use Rattle.std.specs.Prelude.{if◌then◌else◌}
 use mathlib.Core.Path.{◌≡◌, refl, sym, ap, ap₂, ◌∙◌, subst}
 use mathlib.Core.Bool.{Bool, true, false, not}
 use mathlib.Core.List.{List, [], ◌∷◌}
-use mathlib.Core.Option.{Option, none, some}
+use Rattle.std.specs.Prelude.{Option, None, Some}
 use Prim.Native.Nat.{ℕ, suc, ◌+◌, ◌-◌, ◌≤◌, ◌<◌}
 use native.Mathlib.Omega.{arith}
 use lib.ListN.{length, get_or, drop, length-drop}
@@ -92,12 +92,12 @@ module _ (text : List ℕ) (v : Pest.Stack) (line p : ℕ) (m : ParserState) whe
       go : (c : List Span) → (c ≡ [] → ⊥) → taken_from c v ≡ Take.full → Stop (StackFull line) ≡ stack_match_pop text true line c p (set_stack v m)
       go [] n e = absurd (n refl)
       go (y ∷ rest) n e = pick y rest (ltb 1024 (debt (pop y rest v).lengths))
-          (λ _. elim (Pest.match_string text (as_str text y) p) [ none ↦ Err (set_stack (pop y rest v) m) | some q ↦ stack_match_pop text true line rest q (set_stack (pop y rest v) m) ]) e
+          (λ _. elim (Pest.match_string text (as_str text y) p) [ None ↦ Err (set_stack (pop y rest v) m) | Some q ↦ stack_match_pop text true line rest q (set_stack (pop y rest v) m) ]) e
 
   module _ (w : Pest.Stack) (x : Span) (t : Took v w x) where
     -- pest's step at a pop that the debt allows
     step : stack_match_pop text true line v.cache p (set_stack v m)
-        ≡ elim (Pest.match_string text (as_str text x) p) [ none ↦ Err (set_stack w m) | some q ↦ stack_match_pop text true line w.cache q (set_stack w m) ]
+        ≡ elim (Pest.match_string text (as_str text x) p) [ None ↦ Err (set_stack w m) | Some q ↦ stack_match_pop text true line w.cache q (set_stack w m) ]
     step =
         let d : ltb 1024 (debt (pop x w.cache v).lengths) ≡ false = subst (λ (u : Pest.Stack). ltb 1024 (debt u.lengths) ≡ false) t.is (le-ltb 1024 (debt w.lengths) t.owing) in
         ap (λ (c : List Span). stack_match_pop text true line c p (set_stack v m)) t.cache
@@ -105,23 +105,23 @@ module _ (text : List ℕ) (v : Pest.Stack) (line p : ℕ) (m : ParserState) whe
         ∙ ap (λ (u : Pest.Stack). after u) (sym t.is)
       where
         after : Pest.Stack → Ending ParserState
-        after u = elim (Pest.match_string text (as_str text x) p) [ none ↦ Err (set_stack u m) | some q ↦ stack_match_pop text true line w.cache q (set_stack u m) ]
+        after u = elim (Pest.match_string text (as_str text x) p) [ None ↦ Err (set_stack u m) | Some q ↦ stack_match_pop text true line w.cache q (set_stack u m) ]
 
         pick : (b : Bool) → b ≡ false → stop_if b (StackFull line) (λ _. after (pop x w.cache v)) ≡ after (pop x w.cache v)
         pick b e = rw e
 
-    pub step_some : (q : ℕ) → Pest.match_string text (as_str text x) p ≡ some q
+    pub step_some : (q : ℕ) → Pest.match_string text (as_str text x) p ≡ Some q
         → stack_match_pop text true line w.cache q (set_stack w m) ≡ stack_match_pop text true line v.cache p (set_stack v m)
     step_some q e = sym (step ∙ go (Pest.match_string text (as_str text x) p) e)
       where
-        go : (o : Option ℕ) → o ≡ some q
-            → ◌≡◌ {A = Ending ParserState} (elim o [ none ↦ Err (set_stack w m) | some r ↦ stack_match_pop text true line w.cache r (set_stack w m) ]) (stack_match_pop text true line w.cache q (set_stack w m))
+        go : (o : Option ℕ) → o ≡ Some q
+            → ◌≡◌ {A = Ending ParserState} (elim o [ None ↦ Err (set_stack w m) | Some r ↦ stack_match_pop text true line w.cache r (set_stack w m) ]) (stack_match_pop text true line w.cache q (set_stack w m))
         go o e = rw e
 
-    pub step_none : Pest.match_string text (as_str text x) p ≡ none → Err (set_stack w m) ≡ stack_match_pop text true line v.cache p (set_stack v m)
+    pub step_none : Pest.match_string text (as_str text x) p ≡ None → Err (set_stack w m) ≡ stack_match_pop text true line v.cache p (set_stack v m)
     step_none e = sym (step ∙ go (Pest.match_string text (as_str text x) p) e)
       where
-        go : (o : Option ℕ) → o ≡ none → ◌≡◌ {A = Ending ParserState} (elim o [ none ↦ Err (set_stack w m) | some r ↦ stack_match_pop text true line w.cache r (set_stack w m) ]) (Err (set_stack w m))
+        go : (o : Option ℕ) → o ≡ None → ◌≡◌ {A = Ending ParserState} (elim o [ None ↦ Err (set_stack w m) | Some r ↦ stack_match_pop text true line w.cache r (set_stack w m) ]) (Err (set_stack w m))
         go o e = rw e
 
 -- ── The bytes of one entry, compared ──
@@ -139,11 +139,11 @@ room_is p n size h = go (leb n (size - p)) refl
 -- A loop over `bytes`, at the position p of the text.
 module _ (text bytes : List ℕ) (p : ℕ) where
   module _ (room : Bool) (e : room ≡ leb (p + length bytes) (length text)) where
-    pub bytes_short : not room ≡ true → match_string text bytes p ≡ none
+    pub bytes_short : not room ≡ true → match_string text bytes p ≡ None
     unfolding match_by
     bytes_short h = go (leb p (length text)) refl
       where
-        go : (b : Bool) → leb p (length text) ≡ b → match_string text bytes p ≡ none
+        go : (b : Bool) → leb p (length text) ≡ b → match_string text bytes p ≡ None
         go false l = rw l
         go true l = rw (l, starts_short eqb bytes (drop p text) (omega (arith, length-drop p text, leb-true p (length text) l, leb-false (p + length bytes) (length text) (sym e ∙ not-true room h))))
 
@@ -157,13 +157,13 @@ module _ (text bytes : List ℕ) (p : ℕ) where
     pub bytes_more : i < length bytes → get_or text (p + i) 0 ≡ get_or bytes i 0 → From eqb bytes (drop p text) (i + 1)
     bytes_more h e = from_more eqb bytes (drop p text) i f h (eq-eqb _ _ (sym e ∙ sym (get_or-drop p text i 0)))
 
-    pub bytes_differ : p + length bytes ≤ length text → i < length bytes → (get_or text (p + i) 0 ≡ get_or bytes i 0 → ⊥) → match_string text bytes p ≡ none
+    pub bytes_differ : p + length bytes ≤ length text → i < length bytes → (get_or text (p + i) 0 ≡ get_or bytes i 0 → ⊥) → match_string text bytes p ≡ None
     unfolding match_by
     bytes_differ l h n =
         let t : false ≡ starts_by eqb bytes (drop p text) = from_fails eqb bytes (drop p text) i f h (ne_eqb _ _ (λ e. n (sym (get_or-drop p text i 0) ∙ sym e))) in
         rw (le-leb p (length text) (omega (arith, l)), ← t)
 
-    pub bytes_all : p + length bytes ≤ length text → length bytes ≤ i → match_string text bytes p ≡ some (p + length bytes)
+    pub bytes_all : p + length bytes ≤ length text → length bytes ≤ i → match_string text bytes p ≡ Some (p + length bytes)
     unfolding match_by
     bytes_all l h =
         let t : true ≡ starts_by eqb bytes (drop p text) = from_end eqb bytes (drop p text) i f h in
@@ -234,7 +234,7 @@ module _ {text a₀ : List ℕ} {s₀ : Stack} {p₀ : ℕ} {a : List ℕ} {s : 
 
       module _ {bytes : List ℕ} (eb : bytes ≡ bytes_of text x.start.0 x.end.0) where
         -- The entry matched.
-        pub going_more : match_string text bytes p ≡ some (p + length bytes) → Going text a₀ s₀ p₀ a' u (p + length bytes)
+        pub going_more : match_string text bytes p ≡ Some (p + length bytes) → Going text a₀ s₀ p₀ a' u (p + length bytes)
         going_more h = record {
           ready = ready_here;
           frame = stack_trans g.frame e.1;
@@ -245,7 +245,7 @@ module _ {text a₀ : List ℕ} {s₀ : Stack} {p₀ : ℕ} {a : List ℕ} {s : 
         }
 
         -- It did not: popped entries are gone.
-        pub met_failed : {good : Bool} {a'' : List ℕ} {s'' : Stack} → match_string text bytes p ≡ none → a'' ≡ a' → s'' ≡ u → good ≡ false → Met text a₀ s₀ p₀ good a'' s'' p
+        pub met_failed : {good : Bool} {a'' : List ℕ} {s'' : Stack} → match_string text bytes p ≡ None → a'' ≡ a' → s'' ≡ u → good ≡ false → Met text a₀ s₀ p₀ good a'' s'' p
         met_failed h ea es eg =
             rw (ea, es, eg) (record {
               frame = stack_trans g.frame e.1;

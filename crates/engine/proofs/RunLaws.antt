@@ -3,12 +3,12 @@
 use mathlib.Core.Path.{◌≡◌, refl, sym, ap, ap₂, ◌∙◌, subst}
 use mathlib.Core.Bool.{true}
 use mathlib.Core.List.{List, []}
-use mathlib.Core.Option.{Option, none, some}
+use Rattle.std.specs.Prelude.{Option, None, Some}
 use Prim.Native.Nat.{ℕ, zero, suc, ◌*◌, ◌≤◌}
 use native.Mathlib.Omega.{arith}
 use lib.ListN.{length}
 use borrow.Author.Tests.{lt-ltb}
-use Rattle.reading.specs.declared.parser_state.Lookahead.TheVariants.{None}
+use Rattle.reading.specs.declared.parser_state.Lookahead.TheVariants as Looks
 use Rattle.reading.specs.declared.parser_state.Atomicity.TheVariants.{NonAtomic}
 use Rattle.checks.specs.declared.call_limit_tracker.LimitReached.TheVariants.{No}
 use Rattle.checks.specs.declared.grammar.Refused.TheVariants.{By}
@@ -50,13 +50,13 @@ first l = record {
   attempts = record { furthest = record { 0 = 0 }; positives = 0; negatives = 0 };
   stack = record { height = 0; popped = 0; checkpoints = 0 };
   tracker = record { current = 0; limit = l; reached = No };
-  lookahead = None;
+  lookahead = Looks.None;
   atomicity = NonAtomic;
 }
 
 pub first_is : (l : ℕ) (tokens scratch : List ℕ) → view tokens scratch (first l) ≡ Pest.new l
 unfolding numbers pairs queue_of
-first_is l tokens scratch = ap (λ (x : Option CallLimit). record { position = 0; queue = []; lookahead = None; pos_attempts = []; neg_attempts = []; attempt_pos = 0; atomicity = NonAtomic; stack = record { cache = []; popped = []; lengths = [] }; call_tracker = record { current_call_limit = x; limit_reached = none } }) (limit_is l)
+first_is l tokens scratch = ap (λ (x : Option CallLimit). record { position = 0; queue = []; lookahead = Looks.None; pos_attempts = []; neg_attempts = []; attempt_pos = 0; atomicity = NonAtomic; stack = record { cache = []; popped = []; lengths = [] }; call_tracker = record { current_call_limit = x; limit_reached = None } }) (limit_is l)
 
 -- ── A refused run ──
 pub refused_is : (i : Input) (scratch : List ℕ) (n p : ℕ) → By n p ≡ refused_of (refusal i)
@@ -64,15 +64,15 @@ pub refused_is : (i : Input) (scratch : List ℕ) (n p : ℕ) → By n p ≡ ref
 unfolding outcome
 refused_is i scratch n p h = record { is = go (refusal i) h; left = λ r e. refl }
   where
-    go : (o : Option Refusal) → By n p ≡ refused_of o → refused i (record { number = n; place = p }) ≡ (elim o as (λ _. Outcome) [ some r ↦ refused i r | none ↦ started i (answer (reading i)) ])
-    go none e = let z : ◌≡◌ {A = ℕ} 0 1 = cc in absurd (omega arith)
-    go (some r) e =
+    go : (o : Option Refusal) → By n p ≡ refused_of o → refused i (record { number = n; place = p }) ≡ (elim o as (λ _. Outcome) [ Some r ↦ refused i r | None ↦ started i (answer (reading i)) ])
+    go None e = let z : ◌≡◌ {A = ℕ} 0 1 = cc in absurd (omega arith)
+    go (Some r) e =
         let a : n ≡ r.number = cc in
         let b : p ≡ r.place = cc in
         ap₂ (λ (x y : ℕ). refused i (record { number = x; place = y })) a b
 
 -- ── A started run ──
-module _ (i : Input) (e : refusal i ≡ none) where
+module _ (i : Input) (e : refusal i ≡ None) where
   s : Started i
   s = Accepted.started i e
 

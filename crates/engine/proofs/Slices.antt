@@ -2,7 +2,7 @@
 use mathlib.Core.Path.{◌≡◌, refl, sym, ap, ap₂, ◌∙◌}
 use mathlib.Core.Bool.{Bool, true, false}
 use mathlib.Core.List.{List, [], ◌∷◌, ◌++◌, reverse, reverse-append}
-use mathlib.Core.Option.{Option, none, some}
+use Rattle.std.specs.Prelude.{Option, None, Some}
 use Prim.Native.Nat.{ℕ, zero, suc, ◌+◌, ◌*◌, ◌-◌, ◌≤◌, ◌<◌}
 use native.Mathlib.Omega.{arith}
 use native.Mathlib.Decide.{dec_lt}
@@ -94,33 +94,33 @@ module _ (a : List ℕ) where
   slice_none low high h false l = let z : high - low ≡ 0 = omega arith in rw z
 
 -- ── A slice, matched ──
-pub matched_at : (o : Option ℕ) (q : BytePosition) → matched o ≡ At q → o ≡ some q.0
-matched_at none q e = let z : ◌≡◌ {A = ℕ} 0 1 = cc in absurd (omega arith)
-matched_at (some p) q e = let f : record { 0 = p } ≡ q = cc in ap (λ (x : BytePosition). some x.0) f
+pub matched_at : (o : Option ℕ) (q : BytePosition) → matched o ≡ At q → o ≡ Some q.0
+matched_at None q e = let z : ◌≡◌ {A = ℕ} 0 1 = cc in absurd (omega arith)
+matched_at (Some p) q e = let f : record { 0 = p } ≡ q = cc in ap (λ (x : BytePosition). Some x.0) f
 
-pub matched_failed : (o : Option ℕ) → matched o ≡ Failed → o ≡ none
-matched_failed none e = refl
-matched_failed (some p) e = let z : ◌≡◌ {A = ℕ} 0 1 = cc in absurd (omega arith)
+pub matched_failed : (o : Option ℕ) → matched o ≡ Failed → o ≡ None
+matched_failed None e = refl
+matched_failed (Some p) e = let z : ◌≡◌ {A = ℕ} 0 1 = cc in absurd (omega arith)
 
 module _ (text : List ℕ) (x : Span) (bytes : List ℕ) (eb : bytes ≡ as_str text x) (p : ℕ) (r : Matched) (er : r ≡ matched (match_string text bytes p)) where
   -- What a string that was matched by the crate below says of pest's match of an entry.
-  pub entry_at_end : (q : BytePosition) → r ≡ At q → Pest.match_string text (as_str text x) p ≡ some q.0
+  pub entry_at_end : (q : BytePosition) → r ≡ At q → Pest.match_string text (as_str text x) p ≡ Some q.0
   entry_at_end q e = rw (← eb) (match_string_same text bytes p ∙ matched_at (match_string text bytes p) q (sym er ∙ e))
 
-  pub entry_failed : r ≡ Failed → Pest.match_string text (as_str text x) p ≡ none
+  pub entry_failed : r ≡ Failed → Pest.match_string text (as_str text x) p ≡ None
   entry_failed e = rw (← eb) (match_string_same text bytes p ∙ matched_failed (match_string text bytes p) (sym er ∙ e))
 
 module _ (text : List ℕ) (x : Span) (xs : List Span) (p : ℕ) where
-  all_some : (q : ℕ) → Pest.match_string text (as_str text x) p ≡ some q → all_match text (x ∷ xs) p ≡ all_match text xs q
+  all_some : (q : ℕ) → Pest.match_string text (as_str text x) p ≡ Some q → all_match text (x ∷ xs) p ≡ all_match text xs q
   all_some q e = go (Pest.match_string text (as_str text x) p) e
     where
-      go : (o : Option ℕ) → o ≡ some q → elim o [ none ↦ none | some r ↦ all_match text xs r ] ≡ all_match text xs q
+      go : (o : Option ℕ) → o ≡ Some q → elim o [ None ↦ None | Some r ↦ all_match text xs r ] ≡ all_match text xs q
       go o e = rw e
 
-  all_none : Pest.match_string text (as_str text x) p ≡ none → all_match text (x ∷ xs) p ≡ none
+  all_none : Pest.match_string text (as_str text x) p ≡ None → all_match text (x ∷ xs) p ≡ None
   all_none e = go (Pest.match_string text (as_str text x) p) e
     where
-      go : (o : Option ℕ) → o ≡ none → ◌≡◌ {A = Option ℕ} (elim o [ none ↦ none | some r ↦ all_match text xs r ]) none
+      go : (o : Option ℕ) → o ≡ None → ◌≡◌ {A = Option ℕ} (elim o [ None ↦ None | Some r ↦ all_match text xs r ]) None
       go o e = rw e
 
 module _ (text a : List ℕ) (down : Bool) where
@@ -147,11 +147,11 @@ module _ (text a : List ℕ) (down : Bool) where
       pub left_fails : (h : ℕ) → end ≤ h → r ≡ Failed → Failed ≡ matched (all_match text (slice start end down (pairs span a 0 h)) pos.0)
       left_fails h g e =
           let s : slice low high down (pairs span a 0 h) ≡ entry_at a n.index ∷ slice n.low n.high down (pairs span a 0 h) = slice_next a low high h l (omega (arith, w.inside)) down n en in
-          let t : all_match text (slice low high down (pairs span a 0 h)) at.0 ≡ none =
+          let t : all_match text (slice low high down (pairs span a 0 h)) at.0 ≡ None =
           rw s (all_none text (entry_at a n.index) (slice n.low n.high down (pairs span a 0 h)) at.0 (entry_failed text (entry_at a n.index) bytes eb at.0 r er e)) in
           ap matched (sym t ∙ w.rest h g)
 
     pub left_done : (h : ℕ) → end ≤ h → high ≤ low → At at ≡ matched (all_match text (slice start end down (pairs span a 0 h)) pos.0)
     left_done h g l =
-        let t : all_match text (slice low high down (pairs span a 0 h)) at.0 ≡ some at.0 = rw (slice_none a low high h down l) in
+        let t : all_match text (slice low high down (pairs span a 0 h)) at.0 ≡ Some at.0 = rw (slice_none a low high h down l) in
         ap matched (sym t ∙ w.rest h g)

@@ -4,7 +4,7 @@ use Rattle.std.specs.Prelude.{if◌then◌else◌}
 use mathlib.Core.Path.{◌≡◌, refl, sym, ap, ap₂, ◌∙◌}
 use mathlib.Core.Bool.{Bool, true, false, cond, ◌||◌}
 use mathlib.Core.List.{List, [], ◌∷◌}
-use mathlib.Core.Option.{Option, none, some}
+use Rattle.std.specs.Prelude.{Option, None, Some}
 use Prim.Native.Nat.{ℕ, suc, ◌-◌, ◌≤◌, ◌<◌}
 use native.Mathlib.Omega.{arith}
 use lib.IntN.{ℤ, pos, negsuc}
@@ -91,8 +91,8 @@ pub moved_not : (m : Matched) (s : ParserState) → m ≡ Matched.Failed → (to
 moved_not m s e tokens scratch = rw e
 
 matched_back : (o : Option ℕ) → match_of (matched o) ≡ o
-matched_back none = refl
-matched_back (some p) = refl
+matched_back None = refl
+matched_back (Some p) = refl
 
 -- ── stack_push ──
 module _ {a b : List ℕ} {s : ParserState} (r : StateReady a s) {v : Stack} (ev : v ≡ s.stack) {y : BytePosition} (ey : y ≡ s.position)
@@ -215,56 +215,56 @@ module _ (text : List ℕ) (line : ℕ) {a b : List ℕ} {s : ParserState} (r : 
   popped_indebted f = (λ tokens. sym (ap (match_end b line (view tokens a s)) f) ∙ ends tokens, e.1)
 
 -- ── stack_match_peek_slice ──
-index_at : (o : Option ℕ) (r : Index) (n : ℕ) → r ≡ index_of o → r ≡ Index.At n → o ≡ some n
-index_at none r n e f = let z : ◌≡◌ {A = ℕ} 0 1 = cc in absurd (omega arith)
-index_at (some k) r n e f = let g : k ≡ n = cc in ap some g
+index_at : (o : Option ℕ) (r : Index) (n : ℕ) → r ≡ index_of o → r ≡ Index.At n → o ≡ Some n
+index_at None r n e f = let z : ◌≡◌ {A = ℕ} 0 1 = cc in absurd (omega arith)
+index_at (Some k) r n e f = let g : k ≡ n = cc in ap Some g
 
-index_out : (o : Option ℕ) (r : Index) → r ≡ index_of o → r ≡ Index.Outside → o ≡ none
-index_out none r e f = refl
-index_out (some k) r e f = let z : ◌≡◌ {A = ℕ} 0 1 = cc in absurd (omega arith)
+index_out : (o : Option ℕ) (r : Index) → r ≡ index_of o → r ≡ Index.Outside → o ≡ None
+index_out None r e f = refl
+index_out (Some k) r e f = let z : ◌≡◌ {A = ℕ} 0 1 = cc in absurd (omega arith)
 
 -- A normalised index is at most the height.
-normal_inside : (i : ℤ) (len n : ℕ) → normalize_index i len ≡ some n → n ≤ len
+normal_inside : (i : ℤ) (len n : ℕ) → normalize_index i len ≡ Some n → n ≤ len
 normal_inside (pos k) len n e = go (ltb len k) refl e
   where
-    go : (b : Bool) → ltb len k ≡ b → (if b then none else some k) ≡ some n → n ≤ len
+    go : (b : Bool) → ltb len k ≡ b → (if b then None else Some k) ≡ Some n → n ≤ len
     go true t e = let z : ◌≡◌ {A = ℕ} 0 1 = cc in absurd (omega arith)
     go false t e = let g : k ≡ n = cc in omega (arith, ltb-false len k t)
 normal_inside (negsuc k) len n e = go (ltb len (suc k)) e
   where
-    go : (b : Bool) → Pest.in_range (cond b (negsuc (suc k - suc len)) (pos (len - suc k))) ≡ some n → n ≤ len
+    go : (b : Bool) → Pest.in_range (cond b (negsuc (suc k - suc len)) (pos (len - suc k))) ≡ Some n → n ≤ len
     go true e = let z : ◌≡◌ {A = ℕ} 0 1 = cc in absurd (omega arith)
     go false e = let g : len - suc k ≡ n = cc in omega arith
 
-end_inside : (j : Option ℤ) (len n : ℕ) → normalize_end j len ≡ some n → n ≤ len
-end_inside none len n e = let g : len ≡ n = cc in omega arith
-end_inside (some i) len n e = normal_inside i len n e
+end_inside : (j : Option ℤ) (len n : ℕ) → normalize_end j len ≡ Some n → n ≤ len
+end_inside None len n e = let g : len ≡ n = cc in omega arith
+end_inside (Some i) len n e = normal_inside i len n e
 
 module _ (text : List ℕ) (i : ℤ) (j : Option ℤ) (d : Bool) (m : Pest.ParserState) (h : ℕ) (eh : length m.stack.cache ≡ h) where
   abbrev sliced : Option ℕ → Option ℕ → Ending Pest.ParserState
   sliced o q =
       elim o [
-        | none ↦ Err m
-        | some start ↦
+        | None ↦ Err m
+        | Some start ↦
             elim q [
-              | none ↦ Err m
-              | some end ↦ elim (leb end start) [ true ↦ Ok m | false ↦ moved (all_match text (slice start end d m.stack.cache) m.position) m ]
+              | None ↦ Err m
+              | Some end ↦ elim (leb end start) [ true ↦ Ok m | false ↦ moved (all_match text (slice start end d m.stack.cache) m.position) m ]
             ]
       ]
 
   peek_is : (o q : Option ℕ) → normalize_index i h ≡ o → normalize_end j h ≡ q → stack_match_peek_slice text i j d m ≡ sliced o q
   peek_is o q e f = ap₂ sliced (ap (normalize_index i) eh ∙ e) (ap (normalize_end j) eh ∙ f)
 
-  peek_start_out : normalize_index i h ≡ none → Err m ≡ stack_match_peek_slice text i j d m
-  peek_start_out e = sym (peek_is none (normalize_end j h) e refl)
+  peek_start_out : normalize_index i h ≡ None → Err m ≡ stack_match_peek_slice text i j d m
+  peek_start_out e = sym (peek_is None (normalize_end j h) e refl)
 
-  module _ (start : ℕ) (e : normalize_index i h ≡ some start) where
-    peek_end_out : normalize_end j h ≡ none → Err m ≡ stack_match_peek_slice text i j d m
-    peek_end_out f = sym (peek_is (some start) none e f)
+  module _ (start : ℕ) (e : normalize_index i h ≡ Some start) where
+    peek_end_out : normalize_end j h ≡ None → Err m ≡ stack_match_peek_slice text i j d m
+    peek_end_out f = sym (peek_is (Some start) None e f)
 
-    module _ (end : ℕ) (f : normalize_end j h ≡ some end) where
+    module _ (end : ℕ) (f : normalize_end j h ≡ Some end) where
       peek_nothing : end ≤ start → Ok m ≡ stack_match_peek_slice text i j d m
-      peek_nothing l = sym (peek_is (some start) (some end) e f ∙ go (leb end start) (le-leb end start l))
+      peek_nothing l = sym (peek_is (Some start) (Some end) e f ∙ go (leb end start) (le-leb end start l))
         where
           go : (b : Bool) → b ≡ true → ◌≡◌ {A = Ending Pest.ParserState} (elim b [ true ↦ Ok m | false ↦ moved (all_match text (slice start end d m.stack.cache) m.position) m ]) (Ok m)
           go b t = rw t
@@ -272,7 +272,7 @@ module _ (text : List ℕ) (i : ℤ) (j : Option ℤ) (d : Bool) (m : Pest.Parse
       peek_moved : start < end → (q : Matched) → q ≡ matched (all_match text (slice start end d m.stack.cache) m.position) → moved (match_of q) m ≡ stack_match_peek_slice text i j d m
       peek_moved l q eq =
           ap (λ (o : Option ℕ). moved o m) (ap match_of eq ∙ matched_back (all_match text (slice start end d m.stack.cache) m.position))
-          ∙ sym (peek_is (some start) (some end) e f ∙ go (leb end start) (lt-leb end start l))
+          ∙ sym (peek_is (Some start) (Some end) e f ∙ go (leb end start) (lt-leb end start l))
         where
           go : (b : Bool) → b ≡ false
               → ◌≡◌ {A = Ending Pest.ParserState} (elim b [ true ↦ Ok m | false ↦ moved (all_match text (slice start end d m.stack.cache) m.position) m ]) (moved (all_match text (slice start end d m.stack.cache) m.position) m)
@@ -280,7 +280,7 @@ module _ (text : List ℕ) (i : ℤ) (j : Option ℤ) (d : Bool) (m : Pest.Parse
 
 -- Fields b and c of kind 16.
 abbrev pub end_of : (c : ℕ) → (b : ℤ) → Option ℤ
-end_of c b = if ltb c 2 then some b else none
+end_of c b = if ltb c 2 then Some b else None
 
 module _ (text a : List ℕ) (i b : ℤ) (c : ℕ) (s : ParserState) (v : Stack) (ev : v ≡ s.stack) (r : Index) (er : r ≡ index_of (index_in v.height i)) where
   tall : (tokens : List ℕ) → length (view tokens a s).stack.cache ≡ v.height
@@ -293,7 +293,7 @@ module _ (text a : List ℕ) (i b : ℤ) (c : ℕ) (s : ParserState) (v : Stack)
   start_out f tokens = peek_start_out text i (end_of c b) down (view tokens a s) v.height (tall tokens) (index_out (normalize_index i v.height) r (pest_index i v.height er) f)
 
   module _ (start : ℕ) (f : r ≡ Index.At start) (r₂ : Index) (er₂ : r₂ ≡ index_of (end_in v.height (end_of c b))) where
-    start_is : normalize_index i v.height ≡ some start
+    start_is : normalize_index i v.height ≡ Some start
     start_is = index_at (normalize_index i v.height) r start (pest_index i v.height er) f
 
     pub end_out : r₂ ≡ Index.Outside → (tokens : List ℕ) → Err (view tokens a s) ≡ stack_match_peek_slice text i (end_of c b) down (view tokens a s)
@@ -301,7 +301,7 @@ module _ (text a : List ℕ) (i b : ℤ) (c : ℕ) (s : ParserState) (v : Stack)
         peek_end_out text i (end_of c b) down (view tokens a s) v.height (tall tokens) start start_is (index_out (normalize_end (end_of c b) v.height) r₂ (pest_end (end_of c b) v.height er₂) g)
 
     module _ (end : ℕ) (g : r₂ ≡ Index.At end) where
-      end_is : normalize_end (end_of c b) v.height ≡ some end
+      end_is : normalize_end (end_of c b) v.height ≡ Some end
       end_is = index_at (normalize_end (end_of c b) v.height) r₂ end (pest_end (end_of c b) v.height er₂) g
 
       pub end_below : end ≤ v.height

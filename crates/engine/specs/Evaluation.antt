@@ -1,6 +1,6 @@
 -- What each function of the evaluation asks and answers: one equation with pest's evaluation, through the abstraction of Areas.
 use Rattle.std.specs.Prelude.{◌≡◌, Bool, true, ◌||◌, List, ℕ, ◌+◌, ◌*◌, ◌≤◌, eqb, ℤ, length}
-use Rattle.std.proofs.Math.Option.{none}
+use Rattle.std.specs.Prelude.{None}
 use Rattle.matching.specs.Utf8.{within}
 use Rattle.reading.specs.Ending.{Ending}
 use Rattle.reading.specs.Grammar.{Exp, line_count, misfit, rule_at}
@@ -18,8 +18,8 @@ setting_of ns literals text capacity = record { text = text; rule_at = rule_at n
 -- The tests of a run have passed, the areas are large enough, the state is fit, and there is a checkpoint for each call that may
 -- still open.
 pub record Ready (ns : List ℤ) (literals text tokens scratch : List ℕ) (capacity depth : ℕ) (m : ParserState) : Type 0 where
-  pub fitting : misfit ns literals ≡ none
-  pub moving : still_repeat ns ≡ none
+  pub fitting : misfit ns literals ≡ None
+  pub moving : still_repeat ns ≡ None
   pub short : length text ≤ 65535
   pub small : capacity ≤ 65535
   pub area : capacity * 5 ≤ length tokens

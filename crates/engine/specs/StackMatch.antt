@@ -1,6 +1,6 @@
 -- Entries from the bottom, the direction of a slice, and what popping and matching answers.
 use Rattle.std.specs.Prelude.{Bool, List, ℕ, ◌+◌, ◌*◌, ◌-◌, get_or, if◌then◌else◌}
-use Rattle.std.proofs.Math.Option.{Option, none, some}
+use Rattle.std.specs.Prelude.{Option, None, Some}
 use Rattle.matching.specs.declared.position.Matched.{Matched}
 use Rattle.engine.specs.declared.stack_match.Next.{Next}
 use Rattle.engine.specs.declared.stack_match.MatchPopped.{MatchPopped}
@@ -15,8 +15,8 @@ entry_at a i = span (get_or a (entries_at + i * 2) 0) (get_or a (entries_at + i 
 
 -- A match as the definitions say it.
 abbrev pub match_of : Matched → Option ℕ
-match_of (Matched.At p) = some p.0
-match_of Matched.Failed = none
+match_of (Matched.At p) = Some p.0
+match_of Matched.Failed = None
 
 -- Of the entries from `low` to before `high`: which one comes first, and what is left of them.
 abbrev pub next_of : (low high : ℕ) → (top_to_bottom : Bool) → Next

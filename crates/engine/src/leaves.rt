@@ -1,7 +1,6 @@
 // Lines of kinds 1 to 5 only move the position. The evaluation takes them, and the forks whose left sides they are, here, where the
 // position alone goes from line to line: the state is read before and stored after them all.
 ghost use Rattle.std.specs.Prelude.{◌≡◌, true, false, ℕ, ◌≤◌};
-ghost use Rattle.std.proofs.Math.Option.{none};
 ghost use Rattle.reading.specs.Fit.{Fit};
 ghost use Rattle.reading.specs.Grammar.{kind_at, tree_at, misfit};
 ghost use Rattle.reading.specs.Nullable.{still_repeat};
@@ -56,7 +55,7 @@ pub(crate) fn leaf<'a>(
     line: usize,
     p: BytePosition,
 ) -> Matched
-    requires accepted { (misfit nodes.now literals.now ≡ none) × (still_repeat nodes.now ≡ none) }
+    requires accepted { (misfit nodes.now literals.now ≡ None) × (still_repeat nodes.now ≡ None) }
     requires line { Line nodes.now line × (kind_at nodes.now line ≤ 5) }
     ensures { (capacity depth : ℕ) (m : Pest.ParserState) → Fit (setting_of nodes.now literals.now text.now capacity) m → m.position ≡ p.0 → Pest.moved (match_of result) m ≡ evaluated nodes.now literals.now text.now capacity depth (tree_at nodes.now literals.now line) m }
 {
@@ -73,7 +72,7 @@ pub(crate) fn leaf<'a>(
 
 // A line that is no fork: a leaf is done. (`[..]` here and below: see `node`.)
 fn last<'a>(nodes: &[i32], literals: &'a [u8], text: &'a [u8], line: usize, p: BytePosition) -> Halt
-    requires accepted { (misfit nodes.now literals.now ≡ none) × (still_repeat nodes.now ≡ none) }
+    requires accepted { (misfit nodes.now literals.now ≡ None) × (still_repeat nodes.now ≡ None) }
     requires line { Line nodes.now line }
     ensures { (capacity depth : ℕ) (m : Pest.ParserState) → Fit (setting_of nodes.now literals.now text.now capacity) m → m.position ≡ p.0 → Walked nodes.now literals.now text.now capacity depth line m result }
 {
@@ -95,7 +94,7 @@ pub(crate) fn walk<'a>(
     line: usize,
     p: BytePosition,
 ) -> Halt
-    requires accepted { (misfit nodes.now literals.now ≡ none) × (still_repeat nodes.now ≡ none) }
+    requires accepted { (misfit nodes.now literals.now ≡ None) × (still_repeat nodes.now ≡ None) }
     requires line { Line nodes.now line }
     ensures { (capacity depth : ℕ) (m : Pest.ParserState) → Fit (setting_of nodes.now literals.now text.now capacity) m → m.position ≡ p.0 → Walked nodes.now literals.now text.now capacity depth line m result }
 {

@@ -1,6 +1,5 @@
 // The combinators of pest's parser_state.rs over the state's stack: checkpoints, and document 01's kinds 14 to 17.
 ghost use Rattle.std.specs.Prelude.{◌≡◌, true, ◌||◌, List, ℕ, ◌≤◌, ◌<◌, eqb, ltb, length, if◌then◌else◌};
-ghost use Rattle.std.proofs.Math.Option.{none, some};
 ghost use Rattle.reading.specs.Ending.{Ok};
 ghost use Rattle.reading.specs.Pest.{checkpoint, checkpoint_ok, restored, moved, push_end, stack_pop, stack_match_peek_slice, stack_match_pop};
 ghost use Rattle.engine.specs.Fields.{state_size, fields};
@@ -116,7 +115,7 @@ pub(crate) fn stack_match_peek_slice(
 ) -> Ending
     requires state_size_in_bounds { state_size ≤ length s.old }
     requires stack_ready { StackReady scratch.now (fields s.old).stack }
-    ensures { (tokens : List ℕ) → view_end tokens scratch.now (fields s.new) result ≡ stack_match_peek_slice text.now a (if ltb c 2 then some b else none) (eqb c 1 || eqb c 3) (view tokens scratch.now (fields s.old)) }
+    ensures { (tokens : List ℕ) → view_end tokens scratch.now (fields s.new) result ≡ stack_match_peek_slice text.now a (if ltb c 2 then Some b else None) (eqb c 1 || eqb c 3) (view tokens scratch.now (fields s.old)) }
 {
     let v = stack(s);
     let h = v.height;

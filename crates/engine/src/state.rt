@@ -1,6 +1,5 @@
 // The run: pest's `state` over lent areas, with document 01's refusals and stops.
 ghost use Rattle.std.specs.Prelude.{◌≡◌, List, ℕ, ◌≤◌, length};
-ghost use Rattle.std.proofs.Math.Option.{none};
 ghost use Rattle.reading.specs.Pest as Pest;
 ghost use Rattle.engine.specs.Fields.{state_size, fields};
 ghost use Rattle.engine.specs.Areas.{view};
@@ -85,7 +84,7 @@ fn started<'a>(
     report: &mut [u32],
     scratch: &mut [u32],
 ) -> Outcome
-    requires { refusal (input nodes.now literals.now text.now depth_limit call_limit tokens.old report.old (length scratch.old)) ≡ none }
+    requires { refusal (input nodes.now literals.now text.now depth_limit call_limit tokens.old report.old (length scratch.old)) ≡ None }
     ensures { Ran (input nodes.now literals.now text.now depth_limit call_limit tokens.old report.old (length scratch.old)) (outcome_of result tokens.new report.new) scratch.old scratch.new }
 {
     let room = capacity_of(tokens);

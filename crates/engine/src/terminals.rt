@@ -1,6 +1,5 @@
 // The terminals of a grammar that are not the matching crate's own: document 01's kinds 1, 2 and 5.
 ghost use Rattle.std.specs.Prelude.{◌≡◌, ◌+◌, ◌≤◌, length, take, drop, if◌then◌else◌};
-ghost use Rattle.std.proofs.Math.Option.{none, some};
 ghost use Rattle.matching.specs.Position as Position;
 ghost use Rattle.reading.specs.Pest as Pest;
 ghost use Rattle.engine.specs.StackMatch.{match_of};
@@ -30,7 +29,7 @@ pub(crate) fn match_literal<'a>(
 
 // Kind 5: a match of no bytes at the end, by the position's own test.
 pub(crate) fn match_end(text: &[u8], p: BytePosition) -> Matched
-    ensures { match_of result ≡ (if Position.at_end text.now p.0 then some p.0 else none) }
+    ensures { match_of result ≡ (if Position.at_end text.now p.0 then Some p.0 else None) }
 {
     if end_of_input(text, p) {
         Matched::At(p)

@@ -7,7 +7,7 @@ use native.Mathlib.Nat.{zero-add, pow-suc, pow-le-pow_right}
 use mathlib.Core.Path.{◌≡◌, refl, sym, ap, ◌∙◌}
 use mathlib.Core.Bool.{Bool, true, false, cond, ◌&&◌}
 use mathlib.Core.List.{List, [], ◌∷◌}
-use mathlib.Core.Option.{Option, none, some}
+use Rattle.std.specs.Prelude.{Option, None, Some}
 use lib.Dec.{ltb, leb, eqb}
 use lib.IntN.{ℤ, pos, negsuc, ◌-ℤ◌}
 use lib.ListN.{length, get_or, drop}
@@ -22,24 +22,24 @@ use Rattle.sheet.specs.declared.field.Digits.{Digits}
 use Rattle.sheet.specs.declared.field.Digits.TheVariants.{Value, Other}
 use Rattle.sheet.specs.declared.field.Field.TheVariants.{Number, Malformed}
 
-pub then_some : {A B : Type 0} (o : Option A) (f : A → Option B) (y : B) → and_then o f ≡ some y → (a : A) × (o ≡ some a) × (f a ≡ some y)
-then_some none f y e = let z : ◌≡◌ {A = ℕ} 0 1 = cc in absurd (omega arith)
-then_some (some a) f y e = (a, refl, e)
+pub then_some : {A B : Type 0} (o : Option A) (f : A → Option B) (y : B) → and_then o f ≡ Some y → (a : A) × (o ≡ Some a) × (f a ≡ Some y)
+then_some None f y e = let z : ◌≡◌ {A = ℕ} 0 1 = cc in absurd (omega arith)
+then_some (Some a) f y e = (a, refl, e)
 
 pub told_back : (o : Option ℕ) → told (digits_of o) ≡ o
 unfolding digits_of told
-told_back none = refl
-told_back (some n) = refl
+told_back None = refl
+told_back (Some n) = refl
 
 pub through : (g : Option ℕ → Option ℤ) (d : Digits) (o : Option ℕ) → d ≡ digits_of o → field_of (g (told d)) ≡ field_of (g o)
 through g d o e = rw (e, told_back o)
 
 -- what the code's answer says of the definition's
-pub is_value : (o : Option ℕ) (n : ℕ) → digits_of o ≡ Value n → o ≡ some n
+pub is_value : (o : Option ℕ) (n : ℕ) → digits_of o ≡ Value n → o ≡ Some n
 unfolding told
 is_value o n e = sym (told_back o) ∙ ap told e
 
-pub is_other : (o : Option ℕ) → digits_of o ≡ Other → o ≡ none
+pub is_other : (o : Option ℕ) → digits_of o ≡ Other → o ≡ None
 unfolding told
 is_other o e = sym (told_back o) ∙ ap told e
 
@@ -52,11 +52,11 @@ module _ (f : List ℕ) (i : ℕ) (h : i < length f) where
   unfolding behind_spaces
   spaces_more e = rw (add-one i, drop-cons f i 0, eq-eqb _ _ e)
 
-  pub decimal_more : (n d : ℕ) → digit (get_or f i 0) ≡ some d → decimal n (drop i f) ≡ decimal (n * 10 + d) (drop (i + 1) f)
+  pub decimal_more : (n d : ℕ) → digit (get_or f i 0) ≡ Some d → decimal n (drop i f) ≡ decimal (n * 10 + d) (drop (i + 1) f)
   unfolding decimal
   decimal_more n d e = rw (add-one i, drop-cons f i 0, e)
 
-  pub decimal_other : (n : ℕ) → digit (get_or f i 0) ≡ none → decimal n (drop i f) ≡ none
+  pub decimal_other : (n : ℕ) → digit (get_or f i 0) ≡ None → decimal n (drop i f) ≡ None
   unfolding decimal
   decimal_other n e = rw (drop-cons f i 0, e)
 
@@ -64,7 +64,7 @@ pub spaces_end : (f : List ℕ) (i : ℕ) → i ≡ length f → behind_spaces (
 unfolding behind_spaces
 spaces_end f i e = rw (e, drop-length f)
 
-pub decimal_end : (f : List ℕ) (i n : ℕ) → i ≡ length f → decimal n (drop i f) ≡ some n
+pub decimal_end : (f : List ℕ) (i n : ℕ) → i ≡ length f → decimal n (drop i f) ≡ Some n
 unfolding decimal
 decimal_end f i n e = rw (e, drop-length f)
 
@@ -72,11 +72,11 @@ both : (a b : Bool) → (a && b) ≡ true → b ≡ true
 both true b e = e
 both false b e = let z : ◌≡◌ {A = ℕ} 0 1 = cc in absurd (omega arith)
 
-below_ten : (b : Bool) (x d : ℕ) → (b ≡ true → x ≤ 57) → ◌≡◌ {A = Option ℕ} (cond b (some (x - 48)) none) (some d) → d < 10
+below_ten : (b : Bool) (x d : ℕ) → (b ≡ true → x ≤ 57) → ◌≡◌ {A = Option ℕ} (cond b (Some (x - 48)) None) (Some d) → d < 10
 below_ten true x d h e = let k : d ≡ x - 48 = cc in omega (arith, h refl)
 below_ten false x d h e = let z : ◌≡◌ {A = ℕ} 0 1 = cc in absurd (omega arith)
 
-pub digit_small : (x d : ℕ) → digit x ≡ some d → d < 10
+pub digit_small : (x d : ℕ) → digit x ≡ Some d → d < 10
 unfolding digit
 digit_small x d e = below_ten (leb 48 x && leb x 57) x d (λ t. leb-true x 57 (both (leb 48 x) (leb x 57) t)) e
 
@@ -93,7 +93,7 @@ pow_some (suc i) = rw (pow-suc 10 i) (omega (arith, pow_some i))
 
 -- natural, by how many bytes are left
 module _ (f : List ℕ) (at : ℕ) where
-  pub natural_none : at ≡ length f → natural (drop at f) ≡ none
+  pub natural_none : at ≡ length f → natural (drop at f) ≡ None
   unfolding natural
   natural_none e = rw (e, drop-length f)
 
@@ -108,7 +108,7 @@ module _ (f : List ℕ) (at : ℕ) where
     two_left : drop at f ≡ get_or f at 0 ∷ get_or f (suc at) 0 ∷ drop (suc (suc at)) f
     two_left = drop-cons f at 0 (omega arith) ∙ ap (λ x. get_or f at 0 ∷ x) (drop-cons f (suc at) 0 (omega arith))
 
-    pub natural_zero : get_or f at 0 ≡ 48 → natural (drop at f) ≡ none
+    pub natural_zero : get_or f at 0 ≡ 48 → natural (drop at f) ≡ None
     unfolding natural
     natural_zero e = rw (two_left, eq-eqb _ _ e)
 
@@ -118,7 +118,7 @@ module _ (f : List ℕ) (at : ℕ) where
 
 -- the whole field, from where the spaces end
 module _ (f : List ℕ) (at : ℕ) (e : drop at f ≡ behind_spaces f) where
-  pub field_none : at ≡ length f → field f ≡ none
+  pub field_none : at ≡ length f → field f ≡ None
   unfolding field
   field_none z =
       let g : behind_spaces f ≡ [] = sym e ∙ rw z (drop-length f) in
@@ -150,7 +150,7 @@ minus_fits m h = rw (low m h, below m) (record { sfits = h })
 minus_is : (m : ℕ) → m < 2147483648 → to_z w32 (of_z w32 (negsuc 0 -ℤ to_z w32 m)) ≡ negsuc m
 minus_is m h = rw (low m h, below m) (to_z-of_z {w = w32} {z = negsuc m} (record { sfits = h }))
 
-by_suc : (n : ℕ) → (n ≡ 0 → ⊥) → negative (some n) ≡ cond (ltb (n - 1) 2147483648) (some (negsuc (n - 1))) none
+by_suc : (n : ℕ) → (n ≡ 0 → ⊥) → negative (Some n) ≡ cond (ltb (n - 1) 2147483648) (Some (negsuc (n - 1))) None
 by_suc zero z = absurd (z refl)
 by_suc (suc n) z = let k : suc n - 1 ≡ n = omega arith in rw k
 
@@ -180,45 +180,45 @@ module _ (d : Digits) (n : ℕ) (e : d ≡ Value n) where
   pub minus_good : (n ≡ 0 → ⊥) → n - 1 < 2147483648 → Number (to_z w32 (of_z w32 (negsuc 0 -ℤ to_z w32 (n - 1)))) ≡ field_of (negative (told d))
   unfolding told field_of
   minus_good z h =
-      let k : negative (told d) ≡ some (negsuc (n - 1)) = rw e (by_suc n z ∙ rw (lt-ltb _ _ h)) in
+      let k : negative (told d) ≡ Some (negsuc (n - 1)) = rw e (by_suc n z ∙ rw (lt-ltb _ _ h)) in
       rw (minus_is (n - 1) h, k)
 
   pub minus_bad : (n ≡ 0 → ⊥) → 2147483648 ≤ n - 1 → Malformed ≡ field_of (negative (told d))
   unfolding told field_of
   minus_bad z h =
-      let k : negative (told d) ≡ none = rw e (by_suc n z ∙ rw (le-ltb _ _ h)) in
+      let k : negative (told d) ≡ None = rw e (by_suc n z ∙ rw (le-ltb _ _ h)) in
       rw k
 
 -- "each fits signed 32 bits"
-positive_fits : (b : Bool) (n : ℕ) (v : ℤ) → ltb n 2147483648 ≡ b → ◌≡◌ {A = Option ℤ} (cond b (some (pos n)) none) (some v) → SFits w32 v
+positive_fits : (b : Bool) (n : ℕ) (v : ℤ) → ltb n 2147483648 ≡ b → ◌≡◌ {A = Option ℤ} (cond b (Some (pos n)) None) (Some v) → SFits w32 v
 positive_fits true n v h e = let k : v ≡ pos n = cc in rw k (record { sfits = ltb-true n 2147483648 h })
 positive_fits false n v h e = let z : ◌≡◌ {A = ℕ} 0 1 = cc in absurd (omega arith)
 
-negative_fits : (b : Bool) (n : ℕ) (v : ℤ) → ltb n 2147483648 ≡ b → ◌≡◌ {A = Option ℤ} (cond b (some (negsuc n)) none) (some v) → SFits w32 v
+negative_fits : (b : Bool) (n : ℕ) (v : ℤ) → ltb n 2147483648 ≡ b → ◌≡◌ {A = Option ℤ} (cond b (Some (negsuc n)) None) (Some v) → SFits w32 v
 negative_fits true n v h e = let k : v ≡ negsuc n = cc in rw k (record { sfits = ltb-true n 2147483648 h })
 negative_fits false n v h e = let z : ◌≡◌ {A = ℕ} 0 1 = cc in absurd (omega arith)
 
-of_positive : (o : Option ℕ) (v : ℤ) → positive o ≡ some v → SFits w32 v
-of_positive none v e = let z : ◌≡◌ {A = ℕ} 0 1 = cc in absurd (omega arith)
-of_positive (some n) v e = positive_fits (ltb n 2147483648) n v refl e
+of_positive : (o : Option ℕ) (v : ℤ) → positive o ≡ Some v → SFits w32 v
+of_positive None v e = let z : ◌≡◌ {A = ℕ} 0 1 = cc in absurd (omega arith)
+of_positive (Some n) v e = positive_fits (ltb n 2147483648) n v refl e
 
-of_negative : (o : Option ℕ) (v : ℤ) → negative o ≡ some v → SFits w32 v
-of_negative none v e = let z : ◌≡◌ {A = ℕ} 0 1 = cc in absurd (omega arith)
-of_negative (some zero) v e = let z : ◌≡◌ {A = ℕ} 0 1 = cc in absurd (omega arith)
-of_negative (some (suc n)) v e = negative_fits (ltb n 2147483648) n v refl e
+of_negative : (o : Option ℕ) (v : ℤ) → negative o ≡ Some v → SFits w32 v
+of_negative None v e = let z : ◌≡◌ {A = ℕ} 0 1 = cc in absurd (omega arith)
+of_negative (Some zero) v e = let z : ◌≡◌ {A = ℕ} 0 1 = cc in absurd (omega arith)
+of_negative (Some (suc n)) v e = negative_fits (ltb n 2147483648) n v refl e
 
-of_either : (m : Bool) (s t : List ℕ) (v : ℤ) → cond m (negative (natural s)) (positive (natural t)) ≡ some v → SFits w32 v
+of_either : (m : Bool) (s t : List ℕ) (v : ℤ) → cond m (negative (natural s)) (positive (natural t)) ≡ Some v → SFits w32 v
 of_either true s t v e = of_negative (natural s) v e
 of_either false s t v e = of_positive (natural t) v e
 
-of_signed : (s : List ℕ) (v : ℤ) → signed s ≡ some v → SFits w32 v
+of_signed : (s : List ℕ) (v : ℤ) → signed s ≡ Some v → SFits w32 v
 of_signed [] v e = let z : ◌≡◌ {A = ℕ} 0 1 = cc in absurd (omega arith)
 of_signed (b ∷ s) v e = of_either (eqb b 45) s (b ∷ s) v e
 
-pub field_fits : (s : List ℕ) (v : ℤ) → field s ≡ some v → SFits w32 v
+pub field_fits : (s : List ℕ) (v : ℤ) → field s ≡ Some v → SFits w32 v
 unfolding field
 field_fits s v e = of_signed (behind_spaces s) v e
 
 -- the machine reads a field's number back as it is
-pub field_back : (s : List ℕ) (v : ℤ) → field s ≡ some v → to_z w32 (of_z w32 v) ≡ v
+pub field_back : (s : List ℕ) (v : ℤ) → field s ≡ Some v → to_z w32 (of_z w32 v) ≡ v
 field_back s v e = to_z-of_z (field_fits s v e)

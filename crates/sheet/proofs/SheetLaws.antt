@@ -6,7 +6,8 @@ use native.Mathlib.Numerals.{add-one}
 use mathlib.Core.Path.{◌≡◌, refl, sym, ap, ◌∙◌}
 use mathlib.Core.Bool.{Bool, true, false, cond, ◌&&◌}
 use mathlib.Core.List.{List, [], ◌∷◌, ◌++◌, append_assoc, append-nil}
-use mathlib.Core.Option.{Option, none, some, some-injective}
+use Rattle.std.specs.Prelude.{Option, None, Some}
+use Rattle.std.proofs.lemmas.Option.{same_Some}
 use lib.Dec.{ltb, leb, eqb}
 use lib.IntN.{ℤ}
 use lib.ListN.{length, get_or, take, drop, set, length-append, length-drop}
@@ -58,11 +59,11 @@ module _ (s : List ℕ) (n i : ℕ) (h : i < n) where
   unfolding ended
   ended_more z = rw (rest_next, line_end, eq-eqb _ _ z)
 
-  pub malformed_here : line (line_at s i) ≡ none → first_malformed (i + 1) (rest s n i) ≡ i + 1
+  pub malformed_here : line (line_at s i) ≡ None → first_malformed (i + 1) (rest s n i) ≡ i + 1
   unfolding first_malformed
   malformed_here e = rw (rest_next, e)
 
-  pub malformed_more : (v : Node) → line (line_at s i) ≡ some v → first_malformed (i + 1) (rest s n i) ≡ first_malformed (i + 1 + 1) (rest s n (i + 1))
+  pub malformed_more : (v : Node) → line (line_at s i) ≡ Some v → first_malformed (i + 1) (rest s n i) ≡ first_malformed (i + 1 + 1) (rest s n (i + 1))
   unfolding first_malformed
   malformed_more v e = rw (rest_next, e, add-one (i + 1))
 
@@ -97,8 +98,8 @@ numbers_length k (l ∷ ls) e = go (line l) e (numbers_length (suc k) ls)
         (x : Option Node) → cond (reads x) (first_malformed (suc (suc k)) ls) (suc k) ≡ 0 →
         (first_malformed (suc (suc k)) ls ≡ 0 → length (numbers ls) ≡ length ls * 4) →
         length (four x ++ numbers ls) ≡ suc (length ls) * 4
-    go none e h = absurd (omega arith)
-    go (some v) e h = omega (arith, h e)
+    go None e h = absurd (omega arith)
+    go (Some v) e h = omega (arith, h e)
 
 pub lines_numbers : (s : List ℕ) → first_malformed 1 (lines s) ≡ 0 → length (numbers (lines s)) ≡ count s * 4
 lines_numbers s z = numbers_length 0 (lines s) z ∙ ap (λ n. n * 4) (cut_length (count s) s)
@@ -121,15 +122,15 @@ unfolding over
 over_length new area h = simp (length-append, length-drop) (omega arith)
 
 -- a line by its fields
-pub is_number : (o : Option ℤ) (v : ℤ) → field_of o ≡ Number v → o ≡ some v
+pub is_number : (o : Option ℤ) (v : ℤ) → field_of o ≡ Number v → o ≡ Some v
 unfolding field_of
-is_number none v e = cc
-is_number (some w) v e = cc
+is_number None v e = cc
+is_number (Some w) v e = cc
 
-pub is_malformed : (o : Option ℤ) → field_of o ≡ Malformed → o ≡ none
+pub is_malformed : (o : Option ℤ) → field_of o ≡ Malformed → o ≡ None
 unfolding field_of
-is_malformed none e = refl
-is_malformed (some w) e = cc
+is_malformed None e = refl
+is_malformed (Some w) e = cc
 
 -- a signed number as the machine hands it on
 abbrev kept : ℤ → ℤ
@@ -151,54 +152,54 @@ module _ (s : List ℕ) (at : ℕ) (h : at + 41 ≤ length s) where
       (λ a.
       and_then (field (take 12 (drop (at + 16) s)))
       (λ b.
-      and_then (field (take 12 (drop (at + 28) s))) (λ c. some (record { kind = k; a = a; b = b; c = c })))))
+      and_then (field (take 12 (drop (at + 28) s))) (λ c. Some (record { kind = k; a = a; b = b; c = c })))))
   unfolding line
   by_parts = rw (columns_at 4 12 (omega arith), columns_at 16 12 (omega arith), columns_at 28 12 (omega arith), take-take 4 41 (drop at s) (omega arith))
 
-  pub line_bad : field (take 4 (drop at s)) ≡ none → Bad ≡ line_of (line (take 41 (drop at s)))
+  pub line_bad : field (take 4 (drop at s)) ≡ None → Bad ≡ line_of (line (take 41 (drop at s)))
   unfolding line_of
   line_bad e = rw (by_parts, e)
 
-  module _ (k : ℤ) (e : field (take 4 (drop at s)) ≡ some k) where
-    pub line_bad_a : field (take 12 (drop (at + 4) s)) ≡ none → Bad ≡ line_of (line (take 41 (drop at s)))
+  module _ (k : ℤ) (e : field (take 4 (drop at s)) ≡ Some k) where
+    pub line_bad_a : field (take 12 (drop (at + 4) s)) ≡ None → Bad ≡ line_of (line (take 41 (drop at s)))
     unfolding line_of
     line_bad_a f = rw (by_parts, e, f)
 
-    module _ (a : ℤ) (f : field (take 12 (drop (at + 4) s)) ≡ some a) where
-      pub line_bad_b : field (take 12 (drop (at + 16) s)) ≡ none → Bad ≡ line_of (line (take 41 (drop at s)))
+    module _ (a : ℤ) (f : field (take 12 (drop (at + 4) s)) ≡ Some a) where
+      pub line_bad_b : field (take 12 (drop (at + 16) s)) ≡ None → Bad ≡ line_of (line (take 41 (drop at s)))
       unfolding line_of
       line_bad_b g = rw (by_parts, e, f, g)
 
-      module _ (b : ℤ) (g : field (take 12 (drop (at + 16) s)) ≡ some b) where
-        pub line_bad_c : field (take 12 (drop (at + 28) s)) ≡ none → Bad ≡ line_of (line (take 41 (drop at s)))
+      module _ (b : ℤ) (g : field (take 12 (drop (at + 16) s)) ≡ Some b) where
+        pub line_bad_c : field (take 12 (drop (at + 28) s)) ≡ None → Bad ≡ line_of (line (take 41 (drop at s)))
         unfolding line_of
         line_bad_c m = rw (by_parts, e, f, g, m)
 
         pub line_good :
-            (c : ℤ) → field (take 12 (drop (at + 28) s)) ≡ some c →
+            (c : ℤ) → field (take 12 (drop (at + 28) s)) ≡ Some c →
             Fields (kept k) (kept a) (kept b) (kept c) ≡ line_of (line (take 41 (drop at s)))
         unfolding line_of
         line_good c m = rw (by_parts, e, f, g, m, field_back _ k e, field_back _ a f, field_back _ b g, field_back _ c m)
 
 -- what the code's answer says of a line
-pub is_fields : (o : Option Node) (k a b c : ℤ) → line_of o ≡ Fields k a b c → o ≡ some (record { kind = k; a = a; b = b; c = c })
+pub is_fields : (o : Option Node) (k a b c : ℤ) → line_of o ≡ Fields k a b c → o ≡ Some (record { kind = k; a = a; b = b; c = c })
 unfolding line_of
-is_fields none k a b c e = cc
-is_fields (some n) k a b c e =
+is_fields None k a b c e = cc
+is_fields (Some n) k a b c e =
     let p : n.kind ≡ k = cc in
     let q : n.a ≡ a = cc in
     let r : n.b ≡ b = cc in
     let s : n.c ≡ c = cc in
-    ap some (λ i. record { kind = p i; a = q i; b = r i; c = s i })
+    ap Some (λ i. record { kind = p i; a = q i; b = r i; c = s i })
 
-pub is_bad : (o : Option Node) → line_of o ≡ Bad → o ≡ none
+pub is_bad : (o : Option Node) → line_of o ≡ Bad → o ≡ None
 unfolding line_of
-is_bad none e = refl
-is_bad (some n) e = cc
+is_bad None e = refl
+is_bad (Some n) e = cc
 
 -- the machine hands the four numbers of a line on as they are
 pub line_kept :
-    (l : List ℕ) (k a b c : ℤ) → line l ≡ some (record { kind = k; a = a; b = b; c = c }) →
+    (l : List ℕ) (k a b c : ℤ) → line l ≡ Some (record { kind = k; a = a; b = b; c = c }) →
     (kept k ≡ k) × (kept a ≡ a) × (kept b ≡ b) × (kept c ≡ c)
 unfolding line
 line_kept l k a b c e =
@@ -206,11 +207,11 @@ line_kept l k a b c e =
     let q = then_some (field (columns 4 12 l)) _ _ p.2 in
     let r = then_some (field (columns 16 12 l)) _ _ q.2 in
     let s = then_some (field (columns 28 12 l)) _ _ r.2 in
-    let n = some-injective _ _ s.2 in (
-      field_back _ k (p.1 ∙ ap (λ x. some x.kind) n),
-      field_back _ a (q.1 ∙ ap (λ x. some x.a) n),
-      field_back _ b (r.1 ∙ ap (λ x. some x.b) n),
-      field_back _ c (s.1 ∙ ap (λ x. some x.c) n),
+    let n = same_Some _ _ s.2 in (
+      field_back _ k (p.1 ∙ ap (λ x. Some x.kind) n),
+      field_back _ a (q.1 ∙ ap (λ x. Some x.a) n),
+      field_back _ b (r.1 ∙ ap (λ x. Some x.b) n),
+      field_back _ c (s.1 ∙ ap (λ x. Some x.c) n),
     )
 
 -- four numbers written one behind the other
@@ -343,12 +344,12 @@ module _ (s : List ℕ) (n i : ℕ) (before area : List ℤ) (w : NodesPut s n i
   put_all h = let e : i ≡ n = omega (arith, w.within) in rw (← e) w.done
 
   module _ (h : i < n) where
-    pub put_bad : line (line_at s i) ≡ none → ⊥
+    pub put_bad : line (line_at s i) ≡ None → ⊥
     put_bad e = let z : i + 1 ≡ 0 = sym (malformed_here s n i h e) ∙ w.good in omega arith
 
     pub put_more :
         (k a b c : ℤ) (after : List ℤ) → n * 4 ≤ length before →
-        line (line_at s i) ≡ some (record { kind = k; a = a; b = b; c = c }) →
+        line (line_at s i) ≡ Some (record { kind = k; a = a; b = b; c = c }) →
         after ≡ sets area (i * 4) (kept k ∷ kept a ∷ kept b ∷ kept c ∷ []) → NodesPut s n (i + 1) before after
     put_more k a b c after m e o =
         let q = line_kept _ k a b c e in

@@ -1,6 +1,6 @@
 -- The definitions' answers as the code's enums: what the contracts of src/ cite.
 use Rattle.std.specs.Prelude.{ℕ, ℤ}
-use Rattle.std.proofs.Math.Option.{Option, none, some}
+use Rattle.std.specs.Prelude.{Option, None, Some}
 use Rattle.sheet.specs.Sheet.{Node}
 use Rattle.sheet.specs.declared.field.Digits.{Digits}
 use Rattle.sheet.specs.declared.field.Digits.TheVariants.{Value, Other}
@@ -10,17 +10,17 @@ use Rattle.sheet.specs.declared.sheet.Line.{Line}
 use Rattle.sheet.specs.declared.sheet.Line.TheVariants.{Fields, Bad}
 
 unfoldable pub digits_of : Option ℕ → Digits
-digits_of none = Other
-digits_of (some n) = Value n
+digits_of None = Other
+digits_of (Some n) = Value n
 
 unfoldable pub told : Digits → Option ℕ
-told (Value n) = some n
-told Other = none
+told (Value n) = Some n
+told Other = None
 
 unfoldable pub field_of : Option ℤ → Field
-field_of none = Malformed
-field_of (some v) = Number v
+field_of None = Malformed
+field_of (Some v) = Number v
 
 unfoldable pub line_of : Option Node → Line
-line_of none = Bad
-line_of (some n) = Fields n.kind n.a n.b n.c
+line_of None = Bad
+line_of (Some n) = Fields n.kind n.a n.b n.c

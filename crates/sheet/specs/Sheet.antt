@@ -1,6 +1,6 @@
 -- Reading a sheet. Document 01, "Sheet and listing" and rows 1 to 3 of "Stops and refusals".
 use Rattle.std.specs.Prelude.{ℕ, zero, suc, ◌*◌, ◌/◌, ◌%◌, ◌≤◌, ◌≡◌, Bool, true, false, cond, not, ◌&&◌, List, [], ◌∷◌, ◌++◌, ltb, leb, eqb, ℤ, length, get_or, take, drop}
-use Rattle.std.proofs.Math.Option.{Option, none, some}
+use Rattle.std.specs.Prelude.{Option, None, Some}
 use Rattle.engine.specs.declared.state.Outcome.{Outcome}
 use Rattle.sheet.specs.Area.{over}
 use Rattle.sheet.specs.Field.{and_then, field}
@@ -42,11 +42,11 @@ line l =
     and_then (field (columns 4 12 l)) (λ a.
     and_then (field (columns 16 12 l)) (λ b.
     and_then (field (columns 28 12 l)) (λ c.
-    some (record { kind = kind; a = a; b = b; c = c })))))
+    Some (record { kind = kind; a = a; b = b; c = c })))))
 
 abbrev pub reads : Option Node → Bool
-reads none = false
-reads (some n) = true
+reads None = false
+reads (Some n) = true
 
 -- "malformed field": the first line that has one, where the first of `ls` is line k; 0 where none has.
 unfoldable pub first_malformed : ℕ → List (List ℕ) → ℕ
@@ -55,8 +55,8 @@ first_malformed k (l ∷ ls) = cond (reads (line l)) (first_malformed (suc k) ls
 
 -- The nodes of the lines, four numbers each.
 abbrev pub four : Option Node → List ℤ
-four none = []
-four (some n) = n.kind ∷ n.a ∷ n.b ∷ n.c ∷ []
+four None = []
+four (Some n) = n.kind ∷ n.a ∷ n.b ∷ n.c ∷ []
 
 unfoldable pub numbers : List (List ℕ) → List ℤ
 numbers [] = []

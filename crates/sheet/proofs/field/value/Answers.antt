@@ -2,7 +2,7 @@
 -- After `i` columns it is below the `i`-th power of ten, so that twelve columns never leave 64 bits.
 use mathlib.Core.Path.{◌≡◌, refl, sym, ap, ◌∙◌}
 use native.Mathlib.Omega.{arith}
-use mathlib.Core.Option.{some}
+use Rattle.std.specs.Prelude.{Some}
 use lib.ListN.{length, get_or}
 use Rattle.sheet.specs.Field.{digit}
 use Rattle.sheet.specs.Answers.{digits_of}
@@ -23,7 +23,7 @@ pub overflow_add-n : goal.overflow_add-n
 overflow_add-n c = omega (arith, pow_room c.loop-i.i (omega arith), digit_small _ _ (is_value _ _ (sym c.digit_of.ensures ∙ c.in-Value.is)))
 
 pub loop-i-preserved : goal.loop-i-preserved
-loop-i-preserved c = let e : digit (get_or c.args.f.now c.loop-i.i 0) ≡ some c.in-Value.d = is_value _ _ (sym c.digit_of.ensures ∙ c.in-Value.is) in (
+loop-i-preserved c = let e : digit (get_or c.args.f.now c.loop-i.i 0) ≡ Some c.in-Value.d = is_value _ _ (sym c.digit_of.ensures ∙ c.in-Value.is) in (
   omega arith,
   pow_more _ _ _ c.loop-i.invariant.1 (digit_small _ _ e),
   c.loop-i.invariant.2 ∙ decimal_more _ _ c.loop-i-test.true _ _ e,
