@@ -3,14 +3,15 @@
 use mathlib.Core.Path.{◌≡◌, refl, sym, ap, ◌∙◌, subst}
 use mathlib.Core.Bool.{Bool, true, false, ◌&&◌, cond}
 use mathlib.Core.List.{List, [], ◌∷◌, ◌++◌}
-use Rattle.std.specs.Prelude.{Option, None, Some}
+use Rattle.std.specs.Prelude.{Option, None, Some, is_some}
 use Prim.Native.Nat.{ℕ, ◌+◌, ◌*◌, ◌≤◌, ◌<◌}
 use native.Mathlib.Omega.{arith}
 use lib.ListN.{length, take, drop, take-append-drop}
 use lib.Seq.{take-append_seam, drop-append-le}
 use lib.Dec.{eqb, leb}
 use borrow.Author.Tests.{eqb-true, eqb-false, eq-eqb, ne_eqb, leb-true}
-use Rattle.matching.specs.Utf8.{Range, range, tail, utf8_char, within, fits, value_of, Character, first_of, decode, Utf8, utf8_end, utf8_next, after_value, characters, is_some, Edge}
+use Rattle.matching.specs.Utf8.{Range, range, tail, utf8_char, within, fits, value_of, first_of, decode, Utf8, utf8_end, utf8_next, after_value, characters, Edge}
+use Rattle.matching.specs.declared.utf8.Character.{Character}
 use Rattle.matching.specs.Position.{starts_by, fold_case, same_folded}
 use Rattle.matching.proofs.Lead.{and_left, and_right, within_true, decode_nil}
 use Rattle.matching.proofs.Forward.{char_size}

@@ -13,7 +13,8 @@ use lib.ListN.{length, take, drop, length-drop}
 use lib.Seq.{drop-drop}
 use lib.Dec.{eqb, leb}
 use borrow.Author.Tests.{leb-true, leb-false, le-leb, lt-leb, lt-ltb, le-ltb}
-use Rattle.matching.specs.Utf8.{Utf8, Character, decode}
+use Rattle.matching.specs.Utf8.{Utf8, decode}
+use Rattle.matching.specs.declared.utf8.Character.{Character}
 use Rattle.matching.specs.Position as Position
 use Rattle.matching.specs.Position.{starts_by, same_folded, match_by, match_char_by, past}
 use Rattle.matching.proofs.Forward.{starts_length, Found, found, char_forward}
