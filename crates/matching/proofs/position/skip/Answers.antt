@@ -1,5 +1,5 @@
 -- The invariant: what is left to skip from here gives what all of it gives from the start.
-use mathlib.Core.Path.{refl, sym, ap, ◌∙◌}
+use mathlib.Core.Path.{sym, ap, ◌∙◌}
 use Rattle.matching.specs.Answers.{matched}
 use Prim.Native.Nat.{◌+◌, ◌-◌}
 use native.Mathlib.Omega.{arith}

@@ -1,5 +1,4 @@
 -- Past the end there is none; an ASCII byte is its own character; the rest is `beyond_ascii`.
-use native.Mathlib.Omega.{arith}
 use Rattle.std.proofs.Common.{rules}
 use Rattle.matching.proofs.Steps.{no_byte, ascii}
 use Rattle.matching.proofs.utf8.char_at.Goals as goal
