@@ -35,6 +35,7 @@ fn cause_of(number: usize, line: u32) -> Cause
 }
 
 // The ending of a number: any number has one, so that no caller has to know which numbers come.
+#[tactic(auto, unfolding(crate::specs::Packed::unpacked))]
 pub fn unpacked(n: usize) -> Ending
     ensures { result ≡ unpacked n }
 {
