@@ -1,19 +1,17 @@
 -- How the code comes to the set "may stand still": the table's rows over a line as it is read, and a part of the flags, worked on and put
 -- back.
-use mathlib.Core.Path.{◌≡◌, refl, sym, ap, ap₂, ◌∙◌}
+use mathlib.Core.Path.{◌≡◌, refl, sym, ap, ◌∙◌}
 use mathlib.Core.Bool.{Bool, true, false, ◌||◌, true≢false}
-use mathlib.Core.List.{List, [], ◌∷◌, ◌++◌}
-use Rattle.std.specs.Prelude.{Option}
+use mathlib.Core.List.{List, ◌∷◌}
 use Prim.Native.Nat.{ℕ, zero, suc, ◌+◌, ◌-◌, ◌*◌, ◌≤◌}
 use native.Mathlib.Omega.{arith}
-use lib.ListN.{length, get_or, set, take, drop, replicate}
-use lib.Seq.{take_at, length-take-le}
+use lib.ListN.{length, get_or, set, take, replicate}
+use lib.Seq.{length-take-le}
 use lib.Dec.{eqb}
 use lib.IntN.{ℤ, pos}
-use Rattle.reading.specs.Grammar.{row, natural, node_at, kind_at, line_count, first_line}
-use Rattle.reading.specs.Nullable.{still_rows, stands_still, flag, raised, rounds, flags, still_repeat}
-use Rattle.checks.specs.FieldTests.{flagged_repeat}
-use Rattle.reading.proofs.NullableLaws.{rounds_length, still_of}
+use Rattle.reading.specs.Grammar.{row, natural, node_at, kind_at}
+use Rattle.reading.specs.Nullable.{still_rows, stands_still, flag, raised}
+use Rattle.reading.proofs.NullableLaws.{still_of}
 
 -- ── One line, as the code reads it ──
 module _ (s : ℕ → Bool) (ns : List ℤ) (l : ℕ) {kind a b : ℕ}

@@ -1,6 +1,6 @@
 -- How the code's options stand for a field, and the table's tests on it: what the contracts of src/node.rt, grammar.rt and nullable.rt
 -- cite.
-use Rattle.std.specs.Prelude.{Bool, true, false, ◌&&◌, ◌||◌, not, List, ℕ, ◌+◌, eqb, ℤ, pos, negsuc}
+use Rattle.std.specs.Prelude.{Bool, false, ◌&&◌, ◌||◌, not, List, ℕ, ◌+◌, eqb, ℤ, pos, negsuc}
 use Rattle.std.specs.Prelude.{Option, None, Some}
 use Rattle.matching.specs.Utf8.{within}
 use Rattle.reading.specs.Grammar.{natural, edge, line_count, line_fits, node_at, kind_at}

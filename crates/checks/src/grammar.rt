@@ -11,7 +11,7 @@ use crate::nullable::still_repeat;
 use matching::utf8::is_utf8;
 
 // Why a run is refused: document 01's refusals 4 to 9, with the line where one is named.
-#[derive(Clone, Copy)]
+#[derive(Clone, Copy, PartialEq, Eq, Debug)]
 pub enum Refused {
     // 4: "literal text over 65,535 bytes or not UTF-8"
     Literals,
@@ -28,7 +28,7 @@ pub enum Refused {
 }
 
 impl Refused {
-    // The number of the refusal.
+    // The refusal's number.
     pub fn number(self) -> u32
         ensures { result ≡ (refusal_of self).number }
     {
@@ -47,8 +47,7 @@ impl Refused {
         ensures { result ≡ (refusal_of self).place }
     {
         match self {
-            Refused::Nodes(line) => line,
-            Refused::StillRepeat(line) => line,
+            Refused::Nodes(line) | Refused::StillRepeat(line) => line,
             _ => 0,
         }
     }
@@ -214,7 +213,7 @@ fn is_good_text(text: &[u8]) -> bool
     text.len() <= 65535 && is_utf8(text)
 }
 
-// Tests 4 to 6, of the grammar. Where they pass, ..
+// Tests 4 to 6: the literal text and the grammar.
 fn grammar_refusal(nodes: &[i32], literals: &[u8]) -> Result<(), Refused>
     ensures { refused_of result ≡ first_of (grammar_tests nodes.now literals.now) }
 {

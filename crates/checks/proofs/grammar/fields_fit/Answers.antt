@@ -1,7 +1,6 @@
 -- The code's rows are the definition's, test by test.
-use mathlib.Core.Path.{◌≡◌, ◌∙◌}
-use mathlib.Core.Bool.{Bool, false}
-use mathlib.Core.List.{List}
+use mathlib.Core.Path.{◌∙◌}
+use mathlib.Core.Bool.{false}
 use lib.IntN.{pos}
 use Rattle.reading.specs.Grammar.{row}
 use Rattle.checks.proofs.GrammarLaws.{rows_of, tests_read}

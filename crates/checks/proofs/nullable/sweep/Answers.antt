@@ -1,5 +1,4 @@
 -- The lines so far are swept, and the flags are as at first unless a change is noted.
-use Rattle.std.proofs.Common.{rules}
 use mathlib.Core.Path.{refl, ◌∙◌}
 use Rattle.reading.proofs.NullableLaws.{swept_zero, swept_next}
 use Rattle.checks.proofs.NullableSteps.{neither}
