@@ -55,32 +55,43 @@ module _ (x : List ℕ) (n : ℕ) where
 
 -- ── The rows ──
 -- The table over the tests that its rows are made of.
-abbrev pub rows_of : (literal scalar_a scalar_b count_a nil_a nil_b nil_c lower_a lower_b name_a called positive atomicity with_end without : Bool) → List Bool
+abbrev pub rows_of : (literal scalar_a scalar_b count_a nil_a nil_b nil_c lower_a lower_b name_a called positive atomicity with_end without : Bool)
+    → List Bool
 rows_of literal scalar_a scalar_b count_a nil_a nil_b nil_c lower_a lower_b name_a called positive atomicity with_end without =
     let two : Bool = lower_a && lower_b && nil_c in
     let one : Bool = lower_a && nil_b && nil_c in
     let no : Bool = nil_a && nil_b && nil_c in
-    (literal && nil_c) ∷ (literal && nil_c) ∷ (scalar_a && scalar_b && nil_c) ∷ (count_a && nil_b && nil_c) ∷ no ∷ two ∷ two ∷ (name_a && lower_b && nil_c)
-    ∷ one ∷ one ∷ one ∷ (lower_a && positive && nil_c) ∷ (lower_a && atomicity && nil_c) ∷ one ∷ no ∷ (with_end || (without && nil_b)) ∷ no ∷ one
-    ∷ (name_a && nil_b && nil_c) ∷ (called && nil_b && nil_c) ∷ []
+    (literal && nil_c) ∷ (literal && nil_c) ∷ (scalar_a && scalar_b && nil_c) ∷ (count_a && nil_b && nil_c)
+    ∷ no ∷ two ∷ two ∷ (name_a && lower_b && nil_c) ∷ one ∷ one ∷ one
+    ∷ (lower_a && positive && nil_c) ∷ (lower_a && atomicity && nil_c) ∷ one ∷ no
+    ∷ (with_end || (without && nil_b)) ∷ no ∷ one ∷ (name_a && nil_b && nil_c) ∷ (called && nil_b && nil_c) ∷ []
 
 range_of : {f : Option ℕ} (z : ℤ) → f ≡ field_of z → (low high : ℕ) → in_range low high f ≡ between low high z
 range_of z e low high = ap (in_range low high) e ∙ range_is low high z
 
 -- The code's tests on the fields that it read are the definition's on the signed numbers.
 module _ (ns : List ℤ) (literals : List ℕ) (l : ℕ) {kind : ℕ} {a b c : Option ℕ} (ek : kind ≡ kind_at ns l)
-    (ea : a ≡ field_of (get_or ns (l * 4 - 3) (pos 0))) (eb : b ≡ field_of (get_or ns (l * 4 - 2) (pos 0))) (ec : c ≡ field_of (get_or ns (l * 4 - 1) (pos 0))) where
-  pub tests_read : row (rows_of (part_in literals a b) (scalar_in a) (scalar_in b) (is_some a) (in_range 0 0 a) (in_range 0 0 b) (in_range 0 0 c) (in_range 1 (l - 1) a) (in_range 1 (l - 1) b) (in_range 1 65535 a) (rule_in ns a) (in_range 0 1 b) (in_range 0 2 b) (in_range 0 1 c) (in_range 2 3 c)) false (pos kind)
-      ≡ fields_fit ns literals l (node_at ns l)
+    (ea : a ≡ field_of (get_or ns (l * 4 - 3) (pos 0)))
+    (eb : b ≡ field_of (get_or ns (l * 4 - 2) (pos 0)))
+    (ec : c ≡ field_of (get_or ns (l * 4 - 1) (pos 0))) where
+  abbrev pub read_rows : List Bool
+  read_rows =
+      rows_of (part_in literals a b) (scalar_in a) (scalar_in b) (is_some a) (in_range 0 0 a) (in_range 0 0 b) (in_range 0 0 c)
+      (in_range 1 (l - 1) a) (in_range 1 (l - 1) b) (in_range 1 65535 a) (rule_in ns a)
+      (in_range 0 1 b) (in_range 0 2 b) (in_range 0 1 c) (in_range 2 3 c)
+
+  pub tests_read : row read_rows false (pos kind) ≡ fields_fit ns literals l (node_at ns l)
   unfolding fields_fit node_at
   tests_read =
       let za : ℤ = get_or ns (l * 4 - 3) (pos 0) in
       let zb : ℤ = get_or ns (l * 4 - 2) (pos 0) in
       let zc : ℤ = get_or ns (l * 4 - 1) (pos 0) in
       λ i. row (rows_of
-      ((ap₂ (part_in literals) ea eb ∙ part_is literals za zb) i) ((ap scalar_in ea ∙ scalar_is za) i) ((ap scalar_in eb ∙ scalar_is zb) i) ((ap is_some ea ∙ count_is za) i)
-      (range_of za ea 0 0 i) (range_of zb eb 0 0 i) (range_of zc ec 0 0 i) (range_of za ea 1 (l - 1) i) (range_of zb eb 1 (l - 1) i) (range_of za ea 1 65535 i)
-      ((ap (rule_in ns) ea ∙ rule_is ns literals za) i) (range_of zb eb 0 1 i) (range_of zb eb 0 2 i) (range_of zc ec 0 1 i) (range_of zc ec 2 3 i)) false (pos (ek i))
+      ((ap₂ (part_in literals) ea eb ∙ part_is literals za zb) i)
+      ((ap scalar_in ea ∙ scalar_is za) i) ((ap scalar_in eb ∙ scalar_is zb) i) ((ap is_some ea ∙ count_is za) i)
+      (range_of za ea 0 0 i) (range_of zb eb 0 0 i) (range_of zc ec 0 0 i)
+      (range_of za ea 1 (l - 1) i) (range_of zb eb 1 (l - 1) i) (range_of za ea 1 65535 i) ((ap (rule_in ns) ea ∙ rule_is ns literals za) i)
+      (range_of zb eb 0 1 i) (range_of zb eb 0 2 i) (range_of zc ec 0 1 i) (range_of zc ec 2 3 i)) false (pos (ek i))
 
 -- ── A line ──
 module _ (ns : List ℤ) (l : ℕ) {kind : Option ℕ} (e : kind ≡ field_of (get_or ns (l * 4 - 4) (pos 0))) where

@@ -31,7 +31,8 @@ pub refusal_of-injective : (a b : Refused) → refusal_of a ≡ refusal_of b →
 refusal_of-injective a b e = sym (told_back a) ∙ ap told e ∙ told_back b
 
 -- The refusal of an input is that of its parts.
-pub of_input : {o : Option Refusal} (i : Input) → o ≡ refusal_on i.nodes i.literals i.text i.depth_limit (length i.report) i.scratch → o ≡ refusal i
+pub of_input : {o : Option Refusal} (i : Input)
+    → o ≡ refusal_on i.nodes i.literals i.text i.depth_limit (length i.report) i.scratch → o ≡ refusal i
 unfolding refusal
 of_input i e = e
 

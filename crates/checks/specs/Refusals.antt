@@ -22,9 +22,16 @@ refused_of (Err r) = Some (refusal_of r)
 
 -- The tests of the grammar: 4 to 6.
 abbrev pub grammar_tests : List ℤ → (literals : List ℕ) → List (Option Refusal)
-grammar_tests nodes literals = refuse 4 (unless (good_text literals)) ∷ refuse 5 (misfit nodes literals) ∷ refuse 6 (still_repeat nodes) ∷ []
+grammar_tests nodes literals =
+    refuse 4 (unless (good_text literals))
+    ∷ refuse 5 (misfit nodes literals)
+    ∷ refuse 6 (still_repeat nodes)
+    ∷ []
 
 -- The tests that do not look at the grammar: 7 to 9.
 abbrev pub later_tests : (text : List ℕ) → (depth report scratch : ℕ) → List (Option Refusal)
 later_tests text depth report scratch =
-    refuse 7 (unless (good_text text)) ∷ refuse 8 (unless (within 1 1024 depth)) ∷ refuse 9 (unless (leb 515 report && leb 4864 scratch)) ∷ []
+    refuse 7 (unless (good_text text))
+    ∷ refuse 8 (unless (within 1 1024 depth))
+    ∷ refuse 9 (unless (leb 515 report && leb 4864 scratch))
+    ∷ []

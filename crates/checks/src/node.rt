@@ -1,5 +1,6 @@
 // The fields of node lines: signed numbers. All signed arithmetic of the grammar stands here.
-ghost use Rattle.std.specs.Prelude.{◌≡◌, false, ◌||◌, ◌*◌, ◌≤◌, ◌<◌, None, Some, eqb, ltb, pos, length, get_or, if◌then◌else◌};
+ghost use Rattle.std.specs.Prelude.{◌≡◌, ◌||◌, ◌*◌, ◌≤◌, ◌<◌, eqb, ltb, if◌then◌else◌};
+ghost use Rattle.std.specs.Prelude.{false, None, Some, pos, length, get_or};
 ghost use Rattle.reading.specs.Grammar.{natural, kind_at, row};
 ghost use Rattle.reading.specs.Reading.{index_in, end_in};
 ghost use Rattle.checks.specs.FieldTests.{field_of};

@@ -1,5 +1,5 @@
-// An ending as one number, for the one call that the compiler leaves of the evaluation: a number comes back in a register, an enum
-// through memory. Everywhere else an ending is an `Ending`.
+// An ending as one number, for the one call that the compiler leaves of the evaluation. Everywhere else an ending is an `Ending`.
+// Kept: a number there, and no enum: measured, it is faster (a number comes back in a register, an enum through memory).
 ghost use Rattle.std.specs.Prelude.{◌≡◌};
 ghost use Rattle.checks.specs.Packed.{packed, cause_of, unpacked};
 

@@ -1,6 +1,6 @@
 -- What the search finds is the first such line.
 use mathlib.Core.Path.{◌≡◌}
-use mathlib.Core.Bool.{true, false}
+use mathlib.Core.Bool.{Bool, true, false}
 use Prim.Native.Nat.{ℕ}
 use borrow.Author.Tests.{tests}
 use Rattle.std.proofs.Common.{rules}
@@ -11,6 +11,6 @@ use Rattle.checks.proofs.grammar.first_misfit.Goals as goal
 
 pub returns : goal.returns
 returns c =
-    found_first (line_misfits c.args.nodes.now c.args.literals.now) c.args.count c.find.result
-    (first_from_Range _ _ _ _ (λ (l : ℕ). line_misfits c.args.nodes.now c.args.literals.now l ≡ true) (λ (l : ℕ). line_misfits c.args.nodes.now c.args.literals.now l ≡ false) c.find.ensures.ran
-    (λ x q k. search (rules, tests)) (λ x q k. search (rules, tests)))
+    let test : ℕ → Bool = line_misfits c.args.nodes.now c.args.literals.now in
+    found_first test c.args.count c.find.result
+    (first_from_Range _ _ _ _ (λ l. test l ≡ true) (λ l. test l ≡ false) c.find.ensures.ran (λ x q k. search (rules, tests)) (λ x q k. search (rules, tests)))

@@ -8,7 +8,12 @@ pub loop-init : goal.loop-init
 loop-init c = c.requires.none_flagged ∙ rounds_zero _ _
 
 pub returns-then-not-sweep : goal.returns-then-not-sweep
-returns-then-not-sweep c = ended c.args.nodes.now (length c.args.flags.now) c.loop.counter c.loop.flags _ c.loop.auto.counter-end c.loop.invariant (swept_all c.args.nodes.now c.args.flags.now c.loop.flags _ c.loop.auto.flags c.sweep.ensures.flags_after) (c.sweep.ensures.unchanged c.if-not-sweep.true)
+returns-then-not-sweep c =
+    ended c.args.nodes.now (length c.args.flags.now) c.loop.counter c.loop.flags _ c.loop.auto.counter-end c.loop.invariant
+    (swept_all c.args.nodes.now c.args.flags.now c.loop.flags _ c.loop.auto.flags c.sweep.ensures.flags_after)
+    (c.sweep.ensures.unchanged c.if-not-sweep.true)
 
 pub loop-preserved : goal.loop-preserved
-loop-preserved c = rounds_next c.args.nodes.now (length c.args.flags.now) c.loop.counter c.loop.flags _ c.loop.invariant (swept_all c.args.nodes.now c.args.flags.now c.loop.flags _ c.loop.auto.flags c.sweep.ensures.flags_after)
+loop-preserved c =
+    rounds_next c.args.nodes.now (length c.args.flags.now) c.loop.counter c.loop.flags _ c.loop.invariant
+    (swept_all c.args.nodes.now c.args.flags.now c.loop.flags _ c.loop.auto.flags c.sweep.ensures.flags_after)

@@ -7,4 +7,5 @@ pub returns-then-flags-index-clause-flags_after : goal.returns-then-flags-index-
 returns-then-flags-index-clause-flags_after c = raised_flagged c.args.nodes.now c.args.index c.args.flags.now c.if-flags-index.true
 
 pub returns-clause-flags_after : goal.returns-clause-flags_after
-returns-clause-flags_after c = raised_is c.args.nodes.now c.args.index c.args.flags.now c.if-flags-index.false c.line_stands_still-raises.ensures
+returns-clause-flags_after c =
+    raised_is c.args.nodes.now c.args.index c.args.flags.now c.if-flags-index.false c.line_stands_still-raises.ensures

@@ -5,4 +5,7 @@ use Rattle.reading.specs.Nullable.{swept}
 use Rattle.checks.proofs.nullable.sweep.Given as goal
 
 abbrev pub invariant-loop-index : goal.invariant-loop-index
-invariant-loop-index l = record { so_far : l.flags ≡ swept l.nodes l.index l.initial.flags; unchanged : l.changed ≡ false → l.flags ≡ l.initial.flags }
+invariant-loop-index l = record {
+  so_far : l.flags ≡ swept l.nodes l.index l.initial.flags;
+  unchanged : l.changed ≡ false → l.flags ≡ l.initial.flags;
+}
