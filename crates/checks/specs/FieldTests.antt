@@ -1,53 +1,38 @@
--- How the code's structs stand for a field and for what a test finds: what the contracts of src/node.rt, grammar.rt and nullable.rt cite.
-use Rattle.std.specs.Prelude.{Bool, ◌&&◌, not, List, ℕ, ◌+◌, ◌-◌, eqb, ℤ}
+-- How the code's options stand for a field, and the table's tests on it: what the contracts of src/node.rt, grammar.rt and nullable.rt
+-- cite.
+use Rattle.std.specs.Prelude.{Bool, false, ◌&&◌, ◌||◌, not, List, ℕ, ◌+◌, eqb, ℤ, pos, negsuc}
 use Rattle.std.specs.Prelude.{Option, None, Some}
 use Rattle.matching.specs.Utf8.{within}
-use Rattle.checks.specs.declared.node.Field.{Field}
-use Rattle.checks.specs.declared.grammar.Tests.{Tests}
-use Rattle.checks.specs.declared.grammar.Fault.{Fault}
-use Rattle.checks.specs.declared.grammar.Fault.TheVariants.{No, At}
-use Rattle.reading.specs.Grammar.{Node, natural, count, edge, literal_part, scalar, nil, between, name, called, line_fits, node_at, kind_at}
+use Rattle.reading.specs.Grammar.{natural, edge, line_count, line_fits, node_at, kind_at}
 use Rattle.reading.specs.Nullable.{flag}
 
--- A field with its sign.
-abbrev pub field_of : ℤ → Field
-field_of z = record { count = count z; size = natural z }
+-- A field as a count: a negative one is none.
+abbrev pub field_of : ℤ → Option ℕ
+field_of (pos n) = Some n
+field_of (negsuc n) = None
 
--- The line that a test finds, if it finds one.
-abbrev pub fault_of : Option ℕ → Fault
-fault_of None = No
-fault_of (Some p) = At p
+-- ── The tests of the table on a field as the code holds it ──
+abbrev pub in_range : (low high : ℕ) → Option ℕ → Bool
+in_range low high None = false
+in_range low high (Some n) = within low high n
+
+abbrev pub scalar_in : Option ℕ → Bool
+scalar_in f = in_range 0 0xD7FF f || in_range 0xE000 0x10FFFF f
+
+abbrev pub part_in : List ℕ → (offset size : Option ℕ) → Bool
+part_in x None n = false
+part_in x (Some o) None = false
+part_in x (Some o) (Some n) = edge x o && edge x (o + n)
+
+abbrev pub rule_in : List ℤ → Option ℕ → Bool
+rule_in ns None = false
+rule_in ns (Some l) = within 1 (line_count ns) l && eqb (kind_at ns l) 8
+
+-- ── Lines ──
+-- A line against the table.
+abbrev pub line_misfits : List ℤ → List ℕ → (line : ℕ) → Bool
+line_misfits ns literals l = not (line_fits ns literals l)
 
 -- A repeat whose body is flagged.
 abbrev pub flagged_repeat : List ℤ → List Bool → (line : ℕ) → Bool
 flagged_repeat ns f l = eqb (kind_at ns l) 10 && flag f (natural (node_at ns l).a)
-
--- The tests of the table on a field as the code holds it.
-abbrev pub in_range : (low high : ℕ) → Field → Bool
-in_range low high f = f.count && within low high f.size
-
-abbrev pub part_in : List ℕ → (offset size : Field) → Bool
-part_in x o n = o.count && n.count && (edge x o.size && edge x (o.size + n.size))
-
--- The tests that the table's rows are made of.
-abbrev pub tests_of : List ℤ → List ℕ → (line : ℕ) → Node → Tests
-tests_of ns literals line n = record {
-  part = literal_part literals n.a n.b;
-  scalars = scalar n.a && scalar n.b;
-  count_a = count n.a;
-  nil_a = nil n.a;
-  nil_b = nil n.b;
-  nil_c = nil n.c;
-  lower_a = between 1 (line - 1) n.a;
-  lower_b = between 1 (line - 1) n.b;
-  name_a = name n.a;
-  called = called ns literals n.a;
-  positive = between 0 1 n.b;
-  atomicity = between 0 2 n.b;
-  with_end = between 0 1 n.c;
-  without = between 2 3 n.c;
-}
-
--- A line against the table.
-abbrev pub line_misfits : List ℤ → List ℕ → (line : ℕ) → Bool
-line_misfits ns literals l = not (line_fits ns literals l)

@@ -1,10 +1,13 @@
--- Past the end there is no edge, the end is one, and else the byte decides.
+-- Past the end there is no edge, the end is one, and before it the byte decides.
 use native.Mathlib.Omega.{arith}
-use Rattle.reading.proofs.EdgeLaws.{edge_end, edge_at}
+use Rattle.checks.proofs.GrammarLaws.{edge_from_end, edge_low, edge_high}
 use Rattle.checks.proofs.grammar.is_edge.Goals as goal
 
-pub returns-then-text-at-2 : goal.returns-then-text-at-2
-returns-then-text-at-2 c = edge_end c.args.text.now c.args.at c.if-text-at-2.true
+pub returns-then-text-at : goal.returns-then-text-at
+returns-then-text-at c = edge_from_end c.args.text.now c.args.at c.if-text-at.true
 
-pub returns : goal.returns
-returns c = edge_at c.args.text.now c.args.at c.requires (omega arith)
+pub returns-then-b-lt128 : goal.returns-then-b-lt128
+returns-then-b-lt128 c = edge_low c.args.text.now c.args.at c.requires (omega arith) c.if-b-lt128.true
+
+pub returns-else-b-lt128 : goal.returns-else-b-lt128
+returns-else-b-lt128 c = edge_high c.args.text.now c.args.at c.requires (omega arith) c.if-b-lt128.false

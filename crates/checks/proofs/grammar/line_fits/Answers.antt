@@ -1,6 +1,14 @@
--- The kind's range and the fields' row.
-use Rattle.checks.proofs.GrammarLaws.{fits_read}
+-- The kind is known, and then its row decides.
+use mathlib.Core.Path.{◌∙◌}
+use Rattle.checks.proofs.GrammarLaws.{kind_known}
 use Rattle.checks.proofs.grammar.line_fits.Goals as goal
 
-pub returns : goal.returns
-returns c = fits_read c.args.nodes.now c.args.literals.now c.args.line c.field_at-kind.result c.field_at-kind.ensures c.between-known.ensures c.fields_fit-fit.ensures
+pub returns-then-between : goal.returns-then-between
+returns-then-between c =
+    let e = kind_known c.args.nodes.now c.args.line c.field_at.ensures c.between.ensures ∙ c.if-between.true in
+    rw e c.fields_fit.ensures
+
+pub returns-else-between : goal.returns-else-between
+returns-else-between c =
+    let e = kind_known c.args.nodes.now c.args.line c.field_at.ensures c.between.ensures ∙ c.if-between.false in
+    rw e c.if-between.false
