@@ -1,6 +1,6 @@
 -- The definitions of specs/Sheet.antt taken one line at a time: line i stands at byte i * 41, and what lies behind it is the rest of
 -- the lines. Then an area that is written from its start, and a line by its four fields.
-use Prim.Native.Nat.{ℕ, zero, suc, ◌+◌, ◌-◌, ◌*◌, ◌%◌, ◌≤◌, ◌<◌}
+use Prim.Native.Nat.{ℕ, zero, suc, ◌+◌, ◌*◌, ◌%◌, ◌≤◌, ◌<◌}
 use native.Mathlib.Omega.{arith}
 use native.Mathlib.Numerals.{add-one}
 use mathlib.Core.Path.{◌≡◌, refl, sym, ap, ◌∙◌}
@@ -14,10 +14,10 @@ use lib.ListN.{length, get_or, take, drop, length-append, length-drop, drop_of_l
 use lib.Seq.{drop-cons, drop-drop, take-suc, take_all, take_at, drop_at, length-take-le, drop-append-add, sets, sets-eq}
 use mir.Syntax.{w32}
 use mir.Val.{to_z, of_z}
-use borrow.Author.Tests.{ltb-true, ltb-false, leb-true, eqb-true, eqb-false, lt-ltb, le-ltb, le-leb, lt-leb, eq-eqb, ne_eqb}
+use borrow.Author.Tests.{ltb-true, ltb-false, leb-true, eqb-true, eqb-false, lt-ltb, le-ltb, le-leb, eq-eqb, ne_eqb}
 use Rattle.engine.specs.declared.state.Outcome.{Outcome}
 use Rattle.sheet.specs.Area.{over}
-use Rattle.sheet.specs.Field.{and_then, field}
+use Rattle.sheet.specs.Field.{field}
 use Rattle.sheet.specs.Sheet.{cut, count, lines, ended, lined, columns, line, reads, first_malformed, four, numbers, Reading, refused, read, reading, outcome, area_after, SheetRead}
 use Rattle.std.specs.Option.{is_some}
 use Rattle.std.specs.Simd.{first_chunks}

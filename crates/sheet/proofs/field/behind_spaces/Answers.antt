@@ -1,7 +1,7 @@
 -- `behind_spaces` drops space by space: what is behind the spaces of what is left is what is behind them in the whole field.
-use mathlib.Core.Path.{◌≡◌, sym, ◌∙◌}
+use mathlib.Core.Path.{sym, ◌∙◌}
 use native.Mathlib.Omega.{arith}
-use lib.ListN.{get_or, length-take}
+use lib.ListN.{length-take}
 use Rattle.sheet.proofs.FieldLaws.{spaces_more, spaces_here, spaces_end}
 use Rattle.sheet.proofs.field.behind_spaces.Goals as goal
 

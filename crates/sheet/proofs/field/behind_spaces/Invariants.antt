@@ -1,6 +1,6 @@
 -- `behind_spaces` drops space by space: what is behind the spaces of what is left is what is behind them in the whole field.
 use mathlib.Core.Path.{◌≡◌}
-use Prim.Native.Nat.{ℕ, ◌≤◌}
+use Prim.Native.Nat.{◌≤◌}
 use lib.ListN.{length}
 use Rattle.sheet.specs.Field.{behind_spaces}
 use Rattle.sheet.proofs.field.behind_spaces.Given as goal

@@ -2,9 +2,8 @@
 -- After i columns it is below the i-th power of ten, so that twelve columns never leave 64 bits.
 use mathlib.Core.Path.{◌≡◌, sym, ◌∙◌}
 use native.Mathlib.Omega.{arith}
-use Rattle.std.specs.Prelude.{Some}
 use lib.ListN.{length}
-use Rattle.sheet.proofs.FieldLaws.{decimal_more, decimal_other, decimal_end, digit_small, pow_more, pow_room, pow_some}
+use Rattle.sheet.proofs.FieldLaws.{decimal_more, decimal_other, decimal_end, digit_small, pow_more, pow_room}
 use Rattle.sheet.proofs.field.decimal.Goals as goal
 
 pub overflow_mul-n : goal.overflow_mul-n

@@ -1,11 +1,10 @@
 -- The lines are the library's chunks, and each test of them is a part of `lined`.
-use mathlib.Core.Path.{◌≡◌, sym, ap, ◌∙◌}
-use mathlib.Core.Bool.{true, false, not}
+use mathlib.Core.Path.{◌≡◌, sym, ◌∙◌}
+use mathlib.Core.Bool.{true, false}
 use Prim.Native.Nat.{◌%◌, ◌≤◌}
 use lib.ListN.{length}
-use borrow.Author.Tests.{not-true, not-false}
 use Rattle.std.proofs.Common.{arith}
-use Rattle.sheet.specs.Sheet.{count, lines, lined}
+use Rattle.sheet.specs.Sheet.{count, lined}
 use Rattle.sheet.proofs.SheetLaws.{chunks_cut, lined_not, lined_ends}
 use Rattle.sheet.proofs.sheet.lines.Goals as goal
 

@@ -11,7 +11,7 @@ loop-i-init c = put_none _ _ c.requires.good
 
 pub loop-i-preserved : goal.loop-i-preserved
 loop-i-preserved c = elim c.match-read_line.branch [
-  in-Some w ↦ put_more _ _ _ _ c.loop-i.invariant c.loop-i-test.true w.in-Some.n _ _ _
+  | in-Some w ↦ put_more _ _ _ _ c.loop-i.invariant c.loop-i-test.true w.in-Some.n _ _ _
       (sym c.read_line.ensures ∙ w.in-Some.is) (omega arith) w.copy_from_slice.ensures.after w.nodes-is
   | in_default w ↦ absurd (put_bad _ _ _ _ c.loop-i.invariant c.loop-i-test.true (sym c.read_line.ensures ∙ w.in_default.is))
-  ]
+]
