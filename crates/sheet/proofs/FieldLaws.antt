@@ -1,4 +1,4 @@
--- The definitions of specs/Field.antt taken one step at a place of the field: what a loop or a test of src/field.rt moves by.
+-- The definitions of specs/Field.antt by what a loop or a match of src/field.rt goes by: the first byte, and what lies behind it.
 -- Then signed 32-bit numbers, as the machine has them.
 use Prim.Native.Nat.{ℕ, zero, suc, ◌+◌, ◌-◌, ◌*◌, ◌^◌, ◌≤◌, ◌<◌}
 use native.Mathlib.Omega.{arith}
@@ -8,6 +8,8 @@ use mathlib.Core.Path.{◌≡◌, refl}
 use mathlib.Core.Bool.{Bool, true, false, cond, ◌&&◌}
 use mathlib.Core.List.{List, [], ◌∷◌}
 use Rattle.std.specs.Prelude.{Option, None, Some}
+use Rattle.std.proofs.lemmas.Bool.{and_parts}
+use Rattle.std.proofs.lemmas.Option.{cond_some, none-some}
 use lib.Dec.{ltb, leb, eqb}
 use lib.IntN.{ℤ, pos, negsuc}
 use lib.ListN.{length, get_or, take, drop}
@@ -19,7 +21,7 @@ use borrow.Author.Tests.{ltb-true, leb-true, eq-eqb, ne_eqb}
 use Rattle.sheet.specs.Field.{and_then, behind_spaces, digit, decimal, natural, positive, negative, signed, field}
 
 pub then_some : {A B : Type 0} (o : Option A) (f : A → Option B) (y : B) → and_then o f ≡ Some y → (a : A) × (o ≡ Some a) × (f a ≡ Some y)
-then_some None f y e = let z : ◌≡◌ {A = ℕ} 0 1 = cc in absurd (omega arith)
+then_some None f y e = absurd (none-some y e)
 then_some (Some a) f y e = (a, refl, e)
 
 module _ (f : List ℕ) (i : ℕ) (h : i < length f) where
@@ -71,26 +73,16 @@ natural_more [] h z = absurd (omega arith)
 natural_more (b ∷ []) h z = refl
 natural_more (b ∷ c ∷ s) h z = rw (ne_eqb b 48 (z (omega arith)))
 
-pub signed_minus : (s : List ℕ) → 1 ≤ length s → get_or s 0 0 ≡ 45 → signed s ≡ negative (natural (take (length s - 1) (drop 1 s)))
-signed_minus [] h e = absurd (omega arith)
-signed_minus (b ∷ s) h e = rw (behind_first b s, eq-eqb b 45 e)
-
 pub signed_plus : (s : List ℕ) → (1 ≤ length s → get_or s 0 0 ≡ 45 → ⊥) → signed s ≡ positive (natural s)
 unfolding natural
 signed_plus [] z = refl
 signed_plus (b ∷ s) z = rw (ne_eqb b 45 (z (omega arith)))
 
-both : (a b : Bool) → (a && b) ≡ true → b ≡ true
-both true b e = e
-both false b e = let z : ◌≡◌ {A = ℕ} 0 1 = cc in absurd (omega arith)
-
-below_ten : (b : Bool) (x d : ℕ) → (b ≡ true → x ≤ 57) → ◌≡◌ {A = Option ℕ} (cond b (Some (x - 48)) None) (Some d) → d < 10
-below_ten true x d h e = let k : d ≡ x - 48 = cc in omega (arith, h refl)
-below_ten false x d h e = let z : ◌≡◌ {A = ℕ} 0 1 = cc in absurd (omega arith)
-
 pub digit_small : (x d : ℕ) → digit x ≡ Some d → d < 10
 unfolding digit
-digit_small x d e = below_ten (leb 48 x && leb x 57) x d (λ t. leb-true x 57 (both (leb 48 x) (leb x 57) t)) e
+digit_small x d e =
+    let p = cond_some (leb 48 x && leb x 57) (x - 48) d e in
+    omega (arith, p.1, leb-true x 57 (and_parts (leb 48 x) (leb x 57) p.0).1)
 
 -- i digits stay below the i-th power of ten
 pub pow_more : (n d i : ℕ) → n < 10 ^ i → d < 10 → n * 10 + d < 10 ^ (i + 1)
@@ -104,29 +96,25 @@ pow_some zero = omega arith
 pow_some (suc i) = rw (pow-suc 10 i) (omega (arith, pow_some i))
 
 -- "each fits signed 32 bits"
-positive_fits : (b : Bool) (n : ℕ) (v : ℤ) → ltb n 2147483648 ≡ b → ◌≡◌ {A = Option ℤ} (cond b (Some (pos n)) None) (Some v) → SFits w32 v
-positive_fits true n v h e = let k : v ≡ pos n = cc in rw k (record { sfits = ltb-true n 2147483648 h })
-positive_fits false n v h e = let z : ◌≡◌ {A = ℕ} 0 1 = cc in absurd (omega arith)
-
-negative_fits : (b : Bool) (n : ℕ) (v : ℤ) → ltb n 2147483648 ≡ b → ◌≡◌ {A = Option ℤ} (cond b (Some (negsuc n)) None) (Some v) → SFits w32 v
-negative_fits true n v h e = let k : v ≡ negsuc n = cc in rw k (record { sfits = ltb-true n 2147483648 h })
-negative_fits false n v h e = let z : ◌≡◌ {A = ℕ} 0 1 = cc in absurd (omega arith)
-
 of_positive : (o : Option ℕ) (v : ℤ) → positive o ≡ Some v → SFits w32 v
-of_positive None v e = let z : ◌≡◌ {A = ℕ} 0 1 = cc in absurd (omega arith)
-of_positive (Some n) v e = positive_fits (ltb n 2147483648) n v refl e
+of_positive None v e = absurd (none-some v e)
+of_positive (Some n) v e =
+    let p = cond_some (ltb n 2147483648) (pos n) v e in
+    rw (← p.1) (record { sfits = ltb-true n 2147483648 p.0 })
 
 of_negative : (o : Option ℕ) (v : ℤ) → negative o ≡ Some v → SFits w32 v
-of_negative None v e = let z : ◌≡◌ {A = ℕ} 0 1 = cc in absurd (omega arith)
-of_negative (Some zero) v e = let z : ◌≡◌ {A = ℕ} 0 1 = cc in absurd (omega arith)
-of_negative (Some (suc n)) v e = negative_fits (ltb n 2147483648) n v refl e
+of_negative None v e = absurd (none-some v e)
+of_negative (Some zero) v e = absurd (none-some v e)
+of_negative (Some (suc n)) v e =
+    let p = cond_some (ltb n 2147483648) (negsuc n) v e in
+    rw (← p.1) (record { sfits = ltb-true n 2147483648 p.0 })
 
 of_either : (m : Bool) (s t : List ℕ) (v : ℤ) → cond m (negative (natural s)) (positive (natural t)) ≡ Some v → SFits w32 v
 of_either true s t v e = of_negative (natural s) v e
 of_either false s t v e = of_positive (natural t) v e
 
 of_signed : (s : List ℕ) (v : ℤ) → signed s ≡ Some v → SFits w32 v
-of_signed [] v e = let z : ◌≡◌ {A = ℕ} 0 1 = cc in absurd (omega arith)
+of_signed [] v e = absurd (none-some v e)
 of_signed (b ∷ s) v e = of_either (eqb b 45) s (b ∷ s) v e
 
 pub field_fits : (s : List ℕ) (v : ℤ) → field s ≡ Some v → SFits w32 v

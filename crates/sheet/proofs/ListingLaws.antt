@@ -247,34 +247,6 @@ module _ (n : ℕ) (tokens report : List ℕ) (k : ℕ) where
   unfolding later_line
   later_rule z = rw (ne_eqb _ _ z)
 
-module _ (o : Outcome) where
-  pub count_tokens : o.number ≡ 0 → o.count ≡ later_count o
-  unfolding later_count
-  count_tokens e = rw (eq-eqb _ _ e)
-
-  module _ (z : o.number ≡ 0 → ⊥) where
-    pub count_rules : o.number ≡ 10 → o.count ≡ later_count o
-    unfolding later_count
-    count_rules e = rw (ne_eqb _ _ z, eq-eqb _ _ e)
-
-    pub count_none : (o.number ≡ 10 → ⊥) → 0 ≡ later_count o
-    unfolding later_count
-    count_none y = rw (ne_eqb _ _ z, ne_eqb _ _ y)
-
 -- another name for the text
 pub renamed : (t u before after : List ℕ) (r : ℕ) → t ≡ u → Written (whole before u) before after r → Written (whole before t) before after r
 renamed t u before after r e w = rw e w
-
-pub token_is :
-    (t : List ℕ) (k a b c d e : ℕ) → a ≡ get_or t (k * 5) 0 → b ≡ get_or t (k * 5 + 1) 0 → c ≡ get_or t (k * 5 + 2) 0 →
-    d ≡ get_or t (k * 5 + 3) 0 → e ≡ get_or t (k * 5 + 4) 0 → token_line t k ≡ k ∷ a ∷ b ∷ c ∷ d ∷ e ∷ []
-token_is t k a b c d e ea eb ec ed ee = rw (ea, eb, ec, ed, ee)
-
-pub rule_is : (p : List ℕ) (k a b : ℕ) → a ≡ cond (ltb k (get_or p 1 0)) 1 2 → b ≡ get_or p (k + 3) 0 → rule_line p k ≡ a ∷ b ∷ []
-rule_is p k a b ea eb = rw (ea, eb)
-
-pub sign_positive : (k p q : ℕ) → p ≡ q → k < p → ◌≡◌ {A = ℕ} 1 (cond (ltb k q) 1 2)
-sign_positive k p q e h = rw (← e, lt-ltb k p h)
-
-pub sign_negative : (k p q : ℕ) → p ≡ q → p ≤ k → ◌≡◌ {A = ℕ} 2 (cond (ltb k q) 1 2)
-sign_negative k p q e h = rw (← e, le-ltb k p h)

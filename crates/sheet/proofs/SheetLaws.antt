@@ -7,6 +7,7 @@ use mathlib.Core.Path.{◌≡◌, refl, sym, ap, ◌∙◌}
 use mathlib.Core.Bool.{Bool, true, false, cond, ◌&&◌}
 use mathlib.Core.List.{List, [], ◌∷◌, ◌++◌, append_assoc, append-nil}
 use Rattle.std.specs.Prelude.{Option, None, Some}
+use Rattle.std.proofs.lemmas.Bool.{and_parts}
 use Rattle.std.proofs.lemmas.Option.{same_Some}
 use lib.Dec.{ltb, leb, eqb}
 use lib.IntN.{ℤ}
@@ -211,13 +212,10 @@ module _ (s : List ℕ) where
 
   pub lined_few : lined s ≡ true → count s ≤ 4096
   unfolding lined
-  lined_few e = leb-true _ _ (third (ltb 0 (length s)) (eqb (length s % 41) 0) (leb (count s) 4096) (ended (lines s)) e)
-    where
-      third : (a b c d : Bool) → (a && b && c && d) ≡ true → c ≡ true
-      third true true true d e = refl
-      third true true false d e = e
-      third true false c d e = cc
-      third false b c d e = cc
+  lined_few e =
+      let a : Bool = ltb 0 (length s) && eqb (length s % 41) 0 in
+      let p = and_parts (a && leb (count s) 4096) (ended (lines s)) e in
+      leb-true _ _ (and_parts a (leb (count s) 4096) p.0).1
 
 -- the three tests and their answers, in order
 module _ (s : List ℕ) (room : ℕ) where
@@ -331,9 +329,6 @@ module _ (ls : List (List ℕ)) (i : ℕ) (before area : List ℤ) (w : NodesPut
   put_all h = rw (← take_all i ls h) w.done
 
   module _ (h : i < length ls) where
-    pub put_length : length ls * 4 ≤ length before → length area ≡ length before
-    put_length r = rw w.done (over_length _ _ (omega (arith, w.size)))
-
     pub put_bad : line (get_or ls i []) ≡ None → ⊥
     put_bad e = let z : i + 1 ≡ 0 = sym (malformed_here ls i h (ap is_some e)) ∙ w.good in omega arith
 

@@ -53,6 +53,7 @@ fn put_line(numbers: &[u32], out: &mut [u8]) -> usize
 }
 
 // A line of fields; nothing, and 0, where the area is too short for it.
+// Kept: a line has its end at least, so 0 says that none was written, and callers add up what they get.
 fn write_line(numbers: &[u32], out: &mut [u8]) -> usize
     ensures { Written (whole out.old (line_text numbers.now)) out.old out.new result }
 {
@@ -153,6 +154,7 @@ fn put_listing(o: Outcome, tokens: &[u32], report: &[u32], out: &mut [u8]) -> us
 }
 
 // The listing at the start of the area; answers how many bytes that are. 0, and the area as it was, where the area is too short for it.
+// Kept: a listing has a line at least, so 0 is no listing's size, and `&out[..n]` needs no case.
 pub fn write_listing(o: Outcome, tokens: &[u32], report: &[u32], out: &mut [u8]) -> usize
     ensures { ListingWritten o tokens.now report.now out.old out.new result }
 {

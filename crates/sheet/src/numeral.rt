@@ -18,6 +18,7 @@ fn digit_byte(d: u32) -> u8
 }
 
 // The numeral of n, its last digit before `end`; answers where it starts.
+// Kept: the library's `write!` into a lent slice says nothing of the bytes that it writes.
 pub(crate) fn put_numeral(n: u32, out: &mut [u8], end: usize) -> usize
     requires { (length (numeral n) ≤ end) × (end ≤ length out.old) }
     ensures { (out.new ≡ sets out.old result (numeral n)) × (result + length (numeral n) ≡ end) }
