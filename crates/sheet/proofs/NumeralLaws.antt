@@ -6,7 +6,8 @@ use mathlib.Core.Path.{◌≡◌, refl, sym, ap, ◌∙◌}
 use mathlib.Core.Bool.{Bool, true, false, cond, ◌&&◌}
 use mathlib.Core.List.{List, [], ◌∷◌, ◌++◌, append_assoc, append-nil}
 use Rattle.std.specs.Prelude.{Option, None, Some}
-use Rattle.std.proofs.lemmas.Option.{same_Some}
+use Rattle.std.proofs.lemmas.Bool.{and_parts}
+use Rattle.std.proofs.lemmas.Option.{cond_some, none-some, same_Some}
 use lib.Dec.{ltb, leb, eqb}
 use lib.IntN.{ℤ, pos, negsuc}
 use lib.ListN.{length, get_or, replicate, length-append, length-replicate, get_or-append}
@@ -26,12 +27,9 @@ digit_of d h =
 
 digit_byte : (b d : ℕ) → digit b ≡ Some d → b ≡ 48 + d
 unfolding digit
-digit_byte b d e = go (leb 48 b) (leb b 57) refl refl e
-  where
-    go : (x y : Bool) → leb 48 b ≡ x → leb b 57 ≡ y → ◌≡◌ {A = Option ℕ} (cond (x && y) (Some (b - 48)) None) (Some d) → b ≡ 48 + d
-    go true true p q r = let k : b - 48 ≡ d = cc in omega (arith, leb-true 48 b p)
-    go true false p q r = let z : ◌≡◌ {A = ℕ} 0 1 = cc in absurd (omega arith)
-    go false y p q r = let z : ◌≡◌ {A = ℕ} 0 1 = cc in absurd (omega arith)
+digit_byte b d e =
+    let p = cond_some (leb 48 b && leb b 57) (b - 48) d e in
+    omega (arith, p.1, leb-true 48 b (and_parts (leb 48 b) (leb b 57) p.0).0)
 
 -- how many digits are allowed does not matter, once they are enough
 enough : (k m n : ℕ) → n < k → n < m → spelled k n ≡ spelled m n
@@ -160,18 +158,12 @@ starts (negsuc n) = refl
 -- What is written is read back, in every field that holds it.
 pub read_written : (w : ℕ) (v : ℤ) (t : List ℕ) → SFits w32 v → field_text w v ≡ Some t → (field t ≡ Some v) × (length t ≡ w)
 unfolding field field_text justified
-read_written w v t f e = go (leb (length (signed_numeral v)) w) refl e
-  where
-    go :
-        (b : Bool) → leb (length (signed_numeral v)) w ≡ b → cond b (Some (justified w (signed_numeral v))) None ≡ Some t →
-        (field t ≡ Some v) × (length t ≡ w)
-    go true h e =
-        let k : justified w (signed_numeral v) ≡ t = same_Some _ _ e in
-        let l = leb-true (length (signed_numeral v)) w h in (
-          rw (← k, spaces_passed (w - length (signed_numeral v)) (signed_numeral v), starts v) (signed_back v f),
-          rw (← k) (simp (length-append, length-replicate) (omega arith)),
-        )
-    go false h e = let z : ◌≡◌ {A = ℕ} 0 1 = cc in absurd (omega arith)
+read_written w v t f e =
+    let p = cond_some (leb (length (signed_numeral v)) w) (justified w (signed_numeral v)) t e in
+    let l = leb-true (length (signed_numeral v)) w p.0 in (
+      rw (← p.1, spaces_passed (w - length (signed_numeral v)) (signed_numeral v), starts v) (signed_back v f),
+      rw (← p.1) (simp (length-append, length-replicate) (omega arith)),
+    )
 
 -- writing what was read
 decimal_spelled : (s : List ℕ) (a n : ℕ) → 0 < a → decimal a s ≡ Some n → numeral n ≡ numeral a ++ s
@@ -185,7 +177,7 @@ decimal_spelled (b ∷ s) a n h e =
 
 natural_spelled : (s : List ℕ) (n : ℕ) → natural s ≡ Some n → numeral n ≡ s
 unfolding natural decimal
-natural_spelled [] n e = let z : ◌≡◌ {A = ℕ} 0 1 = cc in absurd (omega arith)
+natural_spelled [] n e = absurd (none-some n e)
 natural_spelled (b ∷ []) n e =
     let p = then_some (digit b) _ _ e in
     let k : n ≡ p.0 = sym (same_Some _ _ p.2) ∙ omega arith in
@@ -193,7 +185,7 @@ natural_spelled (b ∷ []) n e =
 natural_spelled (b ∷ c ∷ s) n e = go (eqb b 48) refl e
   where
     go : (x : Bool) → eqb b 48 ≡ x → ◌≡◌ {A = Option ℕ} (cond x None (decimal 0 (b ∷ c ∷ s))) (Some n) → numeral n ≡ b ∷ c ∷ s
-    go true h e = let z : ◌≡◌ {A = ℕ} 0 1 = cc in absurd (omega arith)
+    go true h e = absurd (none-some n e)
     go false h e =
         let p = then_some (digit b) _ _ e in
         let q = digit_byte b p.0 p.1 in
@@ -202,27 +194,17 @@ natural_spelled (b ∷ c ∷ s) n e = go (eqb b 48) refl e
         decimal_spelled (c ∷ s) p.0 n m (rw k at p.2) ∙ rw (numeral_digit p.0 (digit_small b p.0 p.1), ← q)
 
 of_positive : (o : Option ℕ) (v : ℤ) → positive o ≡ Some v → (n : ℕ) × (o ≡ Some n) × (v ≡ pos n)
-of_positive None v e = let z : ◌≡◌ {A = ℕ} 0 1 = cc in absurd (omega arith)
-of_positive (Some n) v e = go (ltb n 2147483648) e
-  where
-    go : (b : Bool) → ◌≡◌ {A = Option ℤ} (cond b (Some (pos n)) None) (Some v) → (m : ℕ) × (◌≡◌ {A = Option ℕ} (Some n) (Some m)) × (v ≡ pos m)
-    go true e = (n, refl, cc)
-    go false e = let z : ◌≡◌ {A = ℕ} 0 1 = cc in absurd (omega arith)
+of_positive None v e = absurd (none-some v e)
+of_positive (Some n) v e = (n, refl, sym (cond_some (ltb n 2147483648) (pos n) v e).1)
 
 of_negative : (o : Option ℕ) (v : ℤ) → negative o ≡ Some v → (n : ℕ) × (o ≡ Some (suc n)) × (v ≡ negsuc n)
-of_negative None v e = let z : ◌≡◌ {A = ℕ} 0 1 = cc in absurd (omega arith)
-of_negative (Some zero) v e = let z : ◌≡◌ {A = ℕ} 0 1 = cc in absurd (omega arith)
-of_negative (Some (suc n)) v e = go (ltb n 2147483648) e
-  where
-    go :
-        (b : Bool) → ◌≡◌ {A = Option ℤ} (cond b (Some (negsuc n)) None) (Some v) →
-        (m : ℕ) × (◌≡◌ {A = Option ℕ} (Some (suc n)) (Some (suc m))) × (v ≡ negsuc m)
-    go true e = (n, refl, cc)
-    go false e = let z : ◌≡◌ {A = ℕ} 0 1 = cc in absurd (omega arith)
+of_negative None v e = absurd (none-some v e)
+of_negative (Some zero) v e = absurd (none-some v e)
+of_negative (Some (suc n)) v e = (n, refl, sym (cond_some (ltb n 2147483648) (negsuc n) v e).1)
 
 signed_spelled : (u : List ℕ) (v : ℤ) → signed u ≡ Some v → signed_numeral v ≡ u
 unfolding signed_numeral
-signed_spelled [] v e = let z : ◌≡◌ {A = ℕ} 0 1 = cc in absurd (omega arith)
+signed_spelled [] v e = absurd (none-some v e)
 signed_spelled (b ∷ s) v e = go (eqb b 45) refl e
   where
     go : (x : Bool) → eqb b 45 ≡ x → cond x (negative (natural s)) (positive (natural (b ∷ s))) ≡ Some v → signed_numeral v ≡ b ∷ s

@@ -1,9 +1,11 @@
 -- Reading a sheet. Document 01, "Sheet and listing" and rows 1 to 3 of "Stops and refusals".
-use Rattle.std.specs.Prelude.{ℕ, zero, suc, ◌*◌, ◌/◌, ◌%◌, ◌≤◌, ◌≡◌, Bool, true, false, cond, not, ◌&&◌, List, [], ◌∷◌, ◌++◌, ltb, leb, eqb, ℤ, length, get_or, take, drop}
+use Rattle.std.specs.Prelude.{ℕ, zero, suc, ◌*◌, ◌/◌, ◌%◌, ◌≤◌, ◌≡◌, Bool, true, false, cond, not, ◌&&◌, List, [], ◌∷◌, ◌++◌, ◌==◌, ltb, leb, eqb, ℤ, length, slice_index, take, drop}
+use Rattle.std.specs.List.{list_all}
 use Rattle.std.specs.Prelude.{Option, None, Some}
 use Rattle.engine.specs.declared.state.Outcome.{Outcome}
 use Rattle.sheet.specs.Area.{over}
 use Rattle.sheet.specs.Field.{and_then, field}
+use Rattle.sheet.specs.declared.sheet.Node.{Node}
 
 -- "A sheet line is 41 bytes": the first n lines of s.
 unfoldable pub cut : ℕ → List ℕ → List (List ℕ)
@@ -17,25 +19,17 @@ abbrev pub lines : List ℕ → List (List ℕ)
 lines s = cut (count s) s
 
 -- "then byte 10, or it is broken": no line is broken.
-unfoldable pub ended : List (List ℕ) → Bool
-ended [] = true
-ended (l ∷ ls) = eqb (get_or l 40 0) 10 && ended ls
+abbrev pub ended : List (List ℕ) → Bool
+ended ls = list_all (λ l. slice_index l 40 == 10) ls
 
 -- The first test is passed: not "sheet empty, broken line, over 4,096 lines".
 unfoldable pub lined : List ℕ → Bool
 lined s = ltb 0 (length s) && eqb (length s % 41) 0 && leb (count s) 4096 && ended (lines s)
 
--- "Each is kind, a, b, c as signed 32-bit numbers".
-pub record Node : Type 0 where
-  pub kind : ℤ
-  pub a : ℤ
-  pub b : ℤ
-  pub c : ℤ
-
 abbrev pub columns : (from width : ℕ) → List ℕ → List ℕ
 columns from width l = take width (drop from l)
 
--- "fields of 4, 12, 12, 12 columns".
+-- "fields of 4, 12, 12, 12 columns". "Each is kind, a, b, c as signed 32-bit numbers".
 unfoldable pub line : List ℕ → Option Node
 line l =
     and_then (field (columns 0 4 l)) (λ kind.

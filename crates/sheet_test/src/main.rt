@@ -8,275 +8,223 @@ use sheet::listing::write_listing;
 use sheet::sheet::read_sheet;
 use std::io;
 
-fn put_number(rt: &impl Print, n: u64) -> io::Result<()> {
-    print!(rt; " {n}")
+fn put_outcome(rt: &impl Print, name: &str, o: Outcome) -> io::Result<()> {
+    print!(rt; "{name}: {} {} {}", o.number, o.place, o.count)
 }
 
-fn put_signed(rt: &impl Print, x: i32) -> io::Result<()> {
-    print!(rt; " {x}")
-}
-
-fn put_outcome(rt: &impl Print, name: &[u8], o: Outcome) -> io::Result<()> {
-    rt.write_all(name)?;
-    rt.write_all(b":")?;
-    put_number(rt, o.number as u64)?;
-    put_number(rt, o.place as u64)?;
-    put_number(rt, o.count as u64)
-}
-
-fn end_line(rt: &impl Print) -> io::Result<()> {
-    rt.write_all(b"\n")
-}
-
-// The numbers of the node area from one place to before another.
-fn put_some(rt: &impl Print, nodes: &[i32], from: usize, to: usize) -> io::Result<()> {
-    for i in from..to {
-        if i < nodes.len() {
-            put_signed(rt, nodes[i])?;
-        }
+fn put_numbers(rt: &impl Print, nodes: &[i32]) -> io::Result<()> {
+    for n in nodes {
+        print!(rt; " {n}")?;
     }
     Ok(())
 }
 
-fn put_area(rt: &impl Print, nodes: &[i32]) -> io::Result<()> {
-    put_some(rt, nodes, 0, nodes.len())?;
-    end_line(rt)
+// The outcome and the whole node area, on a line.
+fn put_all(rt: &impl Print, name: &str, o: Outcome, nodes: &[i32]) -> io::Result<()> {
+    put_outcome(rt, name, o)?;
+    put_numbers(rt, nodes)?;
+    println!(rt)
 }
 
-// A sheet for a node area of five numbers: one line, and one number behind.
-fn one(rt: &impl Print, name: &[u8], bytes: &[u8]) -> io::Result<()> {
-    let mut nodes = [5i32; 5];
-    put_outcome(rt, name, read_sheet(bytes, &mut nodes))?;
-    put_area(rt, &nodes)
+// A sheet for a node area of some fives.
+fn one(rt: &impl Print, name: &str, sheet: &[u8], nodes: &mut [i32]) -> io::Result<()> {
+    let o = read_sheet(sheet, nodes);
+    put_all(rt, name, o, nodes)
 }
 
-// The bytes of a line, over and over.
-fn fill(area: &mut [u8], line: &[u8]) {
-    if line.len() == 0 {
-        return;
+// Sheets for a node area of five numbers: one node, and one number behind.
+fn each(rt: &impl Print, cases: &[(&str, &str)]) -> io::Result<()> {
+    for (name, sheet) in cases {
+        one(rt, name, sheet.as_bytes(), &mut [5; 5])?;
     }
-    for i in 0..area.len() {
-        area[i] = line[i % line.len()];
-    }
+    Ok(())
 }
 
 // Document 01's example, for a node area with two numbers behind.
 fn example(rt: &impl Print) -> io::Result<()> {
-    let mut nodes = [5i32; 18];
-    let bytes =
-        b"   1           0           1           0\n   8           7           1           0\n  19           3           0           0\n   6           2           3           0\n";
-    put_outcome(rt, b"example", read_sheet(bytes, &mut nodes))?;
-    put_area(rt, &nodes)
+    let lines = [
+        *b"   1           0           1           0\n",
+        *b"   8           7           1           0\n",
+        *b"  19           3           0           0\n",
+        *b"   6           2           3           0\n",
+    ];
+    one(rt, "example", lines.as_flattened(), &mut [5; 18])
 }
 
 fn one_short(rt: &impl Print) -> io::Result<()> {
-    let mut nodes = [5i32; 3];
-    put_outcome(
-        rt,
-        b"one number short",
-        read_sheet(b"   1           0           1           0\n", &mut nodes),
-    )?;
-    put_area(rt, &nodes)
+    let line = b"   1           0           1           0\n";
+    one(rt, "one number short", line, &mut [5; 3])
 }
 
 // 41 lines of 40 bytes: a length that 41 divides.
 fn forty(rt: &impl Print) -> io::Result<()> {
-    let mut bytes = [0u8; 1640];
-    fill(&mut bytes, b"  1           0           1           0\n");
-    one(rt, b"41 lines of 40 bytes", &bytes)
+    let lines = [*b"  1           0           1           0\n"; 41];
+    one(
+        rt,
+        "41 lines of 40 bytes",
+        lines.as_flattened(),
+        &mut [5; 5],
+    )
 }
 
 // As many lines as are taken: their first and last nodes, and what lies behind.
 fn most(rt: &impl Print) -> io::Result<()> {
-    let mut bytes = [0u8; 167936];
-    fill(&mut bytes, b"  -6           2           3           0\n");
+    let lines = [*b"  -6           2           3           0\n"; 4096];
     let mut nodes = [5i32; 16385];
-    put_outcome(rt, b"4,096 lines", read_sheet(&bytes, &mut nodes))?;
-    put_some(rt, &nodes, 0, 4)?;
-    put_some(rt, &nodes, 16380, 16385)?;
-    end_line(rt)
+    put_outcome(
+        rt,
+        "4,096 lines",
+        read_sheet(lines.as_flattened(), &mut nodes),
+    )?;
+    put_numbers(rt, &nodes[..4])?;
+    put_numbers(rt, &nodes[16380..])?;
+    println!(rt)
 }
 
 fn one_too_many(rt: &impl Print) -> io::Result<()> {
-    let mut bytes = [0u8; 167977];
-    fill(&mut bytes, b"  -6           2           3           0\n");
+    let lines = [*b"  -6           2           3           0\n"; 4097];
     let mut nodes = [5i32; 16388];
-    put_outcome(rt, b"4,097 lines", read_sheet(&bytes, &mut nodes))?;
-    put_some(rt, &nodes, 0, 4)?;
-    put_some(rt, &nodes, 16384, 16388)?;
-    end_line(rt)
+    put_outcome(
+        rt,
+        "4,097 lines",
+        read_sheet(lines.as_flattened(), &mut nodes),
+    )?;
+    put_numbers(rt, &nodes[..4])?;
+    put_numbers(rt, &nodes[16384..])?;
+    println!(rt)
 }
 
+// Not lines of 41 bytes, or not ended.
 fn broken(rt: &impl Print) -> io::Result<()> {
-    one(rt, b"empty", b"")?;
-    one(
-        rt,
-        b"40 bytes a line",
-        b"  1           0           1           0\n  1           0           1           0\n",
-    )?;
-    one(
-        rt,
-        b"42 bytes a line",
-        b"    1           0           1           0\n    1           0           1           0\n",
-    )?;
-    one(
-        rt,
-        b"no last newline",
-        b"   1           0           1           0\n   1           0           1           0",
-    )?;
-    one(
-        rt,
-        b"space for the last newline",
-        b"   1           0           1           0\n   1           0           1           0 ",
-    )?;
-    one(
-        rt,
-        b"space for the first newline",
-        b"   1           0           1           0    1           0           1           0\n",
-    )
+    let cases = [
+        ("empty", ""),
+        (
+            "40 bytes a line",
+            "  1           0           1           0\n  1           0           1           0\n",
+        ),
+        (
+            "42 bytes a line",
+            "    1           0           1           0\n    1           0           1           0\n",
+        ),
+        (
+            "no last newline",
+            "   1           0           1           0\n   1           0           1           0",
+        ),
+        (
+            "space for the last newline",
+            "   1           0           1           0\n   1           0           1           0 ",
+        ),
+        (
+            "space for the first newline",
+            "   1           0           1           0    1           0           1           0\n",
+        ),
+    ];
+    each(rt, &cases)
 }
 
+// A field that is no number, by its sign or its zeros.
 fn digits(rt: &impl Print) -> io::Result<()> {
-    one(rt, b"tab", b"   1          \t0           1           0\n")?;
-    one(
-        rt,
-        b"plus sign",
-        b"   1          +7           1           0\n",
-    )?;
-    one(
-        rt,
-        b"leading zero",
-        b"   1          07           1           0\n",
-    )?;
-    one(
-        rt,
-        b"minus zero",
-        b"   1          -0           1           0\n",
-    )?;
-    one(
-        rt,
-        b"minus leading zero",
-        b"   1         -07           1           0\n",
-    )?;
-    one(
-        rt,
-        b"two minus",
-        b"   1         --7           1           0\n",
-    )?;
-    one(
-        rt,
-        b"minus behind",
-        b"   1          7-           1           0\n",
-    )
+    let cases = [
+        ("tab", "   1          \t0           1           0\n"),
+        ("plus sign", "   1          +7           1           0\n"),
+        ("leading zero", "   1          07           1           0\n"),
+        ("minus zero", "   1          -0           1           0\n"),
+        (
+            "minus leading zero",
+            "   1         -07           1           0\n",
+        ),
+        ("two minus", "   1         --7           1           0\n"),
+        ("minus behind", "   1          7-           1           0\n"),
+    ];
+    each(rt, &cases)
 }
 
+// A field that is no number, by its minus, its spaces or a letter.
 fn minus_and_spaces(rt: &impl Print) -> io::Result<()> {
-    one(
-        rt,
-        b"minus alone",
-        b"   1           -           1           0\n",
-    )?;
-    one(
-        rt,
-        b"space behind minus",
-        b"   1         - 7           1           0\n",
-    )?;
-    one(
-        rt,
-        b"space behind digits",
-        b"   1          7            1           0\n",
-    )?;
-    one(
-        rt,
-        b"space between digits",
-        b"   1         7 7           1           0\n",
-    )?;
-    one(
-        rt,
-        b"blank field",
-        b"   1                       1           0\n",
-    )?;
-    one(
-        rt,
-        b"newline in a field",
-        b"   1          \n0           1           0\n",
-    )?;
-    one(rt, b"letter", b"   1           0           1           x\n")
+    let cases = [
+        ("minus alone", "   1           -           1           0\n"),
+        (
+            "space behind minus",
+            "   1         - 7           1           0\n",
+        ),
+        (
+            "space behind digits",
+            "   1          7            1           0\n",
+        ),
+        (
+            "space between digits",
+            "   1         7 7           1           0\n",
+        ),
+        ("blank field", "   1                       1           0\n"),
+        (
+            "newline in a field",
+            "   1          \n0           1           0\n",
+        ),
+        ("letter", "   1           0           1           x\n"),
+    ];
+    each(rt, &cases)
 }
 
+// The least and the largest of a field, and those next to them.
 fn ranges(rt: &impl Print) -> io::Result<()> {
-    one(rt, b"zero", b"   0           0           0           0\n")?;
-    one(
-        rt,
-        b"four columns",
-        b"9999           0           0           0\n",
-    )?;
-    one(
-        rt,
-        b"four columns, minus",
-        b"-999           0           0           0\n",
-    )?;
-    one(
-        rt,
-        b"largest",
-        b"   1  2147483647           0           0\n",
-    )?;
-    one(
-        rt,
-        b"one over the largest",
-        b"   1  2147483648           0           0\n",
-    )?;
-    one(rt, b"least", b"   1           0 -2147483648           0\n")?;
-    one(
-        rt,
-        b"one under the least",
-        b"   1           0 -2147483649           0\n",
-    )?;
-    one(
-        rt,
-        b"twelve digits",
-        b"   1           0           0999999999999\n",
-    )
+    let cases = [
+        ("zero", "   0           0           0           0\n"),
+        ("four columns", "9999           0           0           0\n"),
+        (
+            "four columns, minus",
+            "-999           0           0           0\n",
+        ),
+        ("largest", "   1  2147483647           0           0\n"),
+        (
+            "one over the largest",
+            "   1  2147483648           0           0\n",
+        ),
+        ("least", "   1           0 -2147483648           0\n"),
+        (
+            "one under the least",
+            "   1           0 -2147483649           0\n",
+        ),
+        (
+            "twelve digits",
+            "   1           0           0999999999999\n",
+        ),
+    ];
+    each(rt, &cases)
 }
 
+// Which of two refusals it is.
 fn order(rt: &impl Print) -> io::Result<()> {
-    one(
-        rt,
-        b"second line of three",
-        b"   1           0           1           0\n   1          +1           0           0\n   x           0           0           0\n",
-    )?;
-    one(
-        rt,
-        b"broken behind malformed",
-        b"   1          +1           0           0\n   1           0           1           0 ",
-    )?;
-    one(
-        rt,
-        b"malformed and no room",
-        b"   1           0           1           0\n   1          +1           0           0\n",
-    )?;
-    one(
-        rt,
-        b"no room for the second",
-        b"   1           0           1           0\n   1           0           1           0\n",
-    )
-}
-
-fn put_name(rt: &impl Print, name: &[u8]) -> io::Result<()> {
-    rt.write_all(name)?;
-    rt.write_all(b":\n")
+    let cases = [
+        (
+            "second line of three",
+            "   1           0           1           0\n   1          +1           0           0\n   x           0           0           0\n",
+        ),
+        (
+            "broken behind malformed",
+            "   1          +1           0           0\n   1           0           1           0 ",
+        ),
+        (
+            "malformed and no room",
+            "   1           0           1           0\n   1          +1           0           0\n",
+        ),
+        (
+            "no room for the second",
+            "   1           0           1           0\n   1           0           1           0\n",
+        ),
+    ];
+    each(rt, &cases)
 }
 
 // A listing, as far as the area holds it whole.
 fn list(
     rt: &impl Print,
-    name: &[u8],
+    name: &str,
     o: Outcome,
     tokens: &[u32],
     report: &[u32],
     out: &mut [u8],
 ) -> io::Result<()> {
-    put_name(rt, name)?;
+    println!(rt; "{name}:")?;
     let n = write_listing(o, tokens, report, out);
     rt.write_all(&out[..n])
 }
@@ -292,34 +240,34 @@ fn listings(rt: &impl Print) -> io::Result<()> {
         place: 0,
         count: 2,
     };
-    list(rt, b"parsed", parsed, &tokens, &none, &mut out)?;
+    list(rt, "parsed", parsed, &tokens, &none, &mut out)?;
     let report = [4u32, 2, 1, 7, 12, 7];
     let failed = Outcome {
         number: 10,
         place: 4,
         count: 3,
     };
-    list(rt, b"failed", failed, &none, &report, &mut out)?;
+    list(rt, "failed", failed, &none, &report, &mut out)?;
     let stopped = Outcome {
         number: 13,
         place: 3,
         count: 0,
     };
-    list(rt, b"stopped", stopped, &tokens, &report, &mut out)?;
+    list(rt, "stopped", stopped, &tokens, &report, &mut out)?;
     let large = Outcome {
         number: 999999,
         place: 1000000,
         count: 4294967295,
     };
-    list(rt, b"wide", large, &tokens, &report, &mut out)?;
+    list(rt, "wide", large, &tokens, &report, &mut out)?;
     let mut short = [0u8; 92];
-    list(rt, b"area too short", parsed, &tokens, &report, &mut short)
+    list(rt, "area too short", parsed, &tokens, &report, &mut short)
 }
 
 // Rule 7 over a sequence over `a`, through run_sheet: the outcome and the node area.
 fn limited(
     rt: &impl Print,
-    name: &[u8],
+    name: &str,
     depth: u32,
     calls: u32,
     nodes: &mut [i32],
@@ -327,8 +275,13 @@ fn limited(
     scratch: &mut [u32],
 ) -> io::Result<()> {
     let mut tokens = [9u32; 10];
+    let lines = [
+        *b"   1           0           1           0\n",
+        *b"   9           1           0           0\n",
+        *b"   8           7           2           0\n",
+    ];
     let o = run_sheet(
-        b"   1           0           1           0\n   9           1           0           0\n   8           7           2           0\n",
+        lines.as_flattened(),
         b"abc",
         b"a",
         depth,
@@ -338,8 +291,7 @@ fn limited(
         report,
         scratch,
     );
-    put_outcome(rt, name, o)?;
-    put_area(rt, nodes)
+    put_all(rt, name, o, nodes)
 }
 
 fn short_areas(rt: &impl Print) -> io::Result<()> {
@@ -348,7 +300,7 @@ fn short_areas(rt: &impl Print) -> io::Result<()> {
     let mut few = [5i32; 11];
     limited(
         rt,
-        b"run, nodes short",
+        "run, nodes short",
         0,
         0,
         &mut few,
@@ -359,7 +311,7 @@ fn short_areas(rt: &impl Print) -> io::Result<()> {
     let mut less = [9u32; 514];
     limited(
         rt,
-        b"run, report short",
+        "run, report short",
         2,
         0,
         &mut nodes,
@@ -369,7 +321,7 @@ fn short_areas(rt: &impl Print) -> io::Result<()> {
     let mut little = [9u32; 4863];
     limited(
         rt,
-        b"run, scratch short",
+        "run, scratch short",
         2,
         0,
         &mut nodes,
@@ -379,7 +331,7 @@ fn short_areas(rt: &impl Print) -> io::Result<()> {
 }
 
 // In areas that are as long as they must be.
-fn at_limits(rt: &impl Print, name: &[u8], depth: u32, calls: u32) -> io::Result<()> {
+fn at_limits(rt: &impl Print, name: &str, depth: u32, calls: u32) -> io::Result<()> {
     let mut nodes = [5i32; 13];
     let mut report = [9u32; 515];
     let mut scratch = [9u32; 4864];
@@ -395,12 +347,12 @@ fn at_limits(rt: &impl Print, name: &[u8], depth: u32, calls: u32) -> io::Result
 }
 
 fn limits(rt: &impl Print) -> io::Result<()> {
-    at_limits(rt, b"run, depth 0", 0, 0)?;
-    at_limits(rt, b"run, depth 1", 1, 0)?;
-    at_limits(rt, b"run, depth 2", 2, 0)?;
-    at_limits(rt, b"run, depth 1,025", 1025, 0)?;
-    at_limits(rt, b"run, call limit 1", 2, 1)?;
-    at_limits(rt, b"run, call limit 2", 2, 2)
+    at_limits(rt, "run, depth 0", 0, 0)?;
+    at_limits(rt, "run, depth 1", 1, 0)?;
+    at_limits(rt, "run, depth 2", 2, 0)?;
+    at_limits(rt, "run, depth 1,025", 1025, 0)?;
+    at_limits(rt, "run, call limit 1", 2, 1)?;
+    at_limits(rt, "run, call limit 2", 2, 2)
 }
 
 fn main(rt: HostRuntime) -> io::Result<()> {
