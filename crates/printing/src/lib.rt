@@ -46,7 +46,7 @@ fn load<'a>(rt: &impl Files, path: &str, buf: &'a mut [u8]) -> &'a [u8]
 }
 
 // 199,897 bytes hold every listing (`whole_listing`, files/proofs/ListedLaws). One that cannot be written whole is told of, and the error
-// ends the program.
+// is handed on. Nothing is promised: no clause can say what a file holds or what was written (docs/DECISIONS.md, 31).
 pub fn print_files(rt: &(impl Files + Print + Eprint), paths: Paths<'_>) -> io::Result<()> {
     let mut sheet = [0u8; 65536];
     let mut literals = [0u8; 65536];
