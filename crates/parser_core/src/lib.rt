@@ -17,10 +17,12 @@ use sheet::sheet::read_sheet;
 #[derive(Clone, Copy)]
 pub struct ParserCoreOutcome(pub u32, pub u32, pub u32);
 
-fn handed_back(o: Outcome) -> ParserCoreOutcome
-    ensures { returned result ≡ o }
-{
-    ParserCoreOutcome(o.number, o.place, o.count)
+impl From<Outcome> for ParserCoreOutcome {
+    ghost from_gives = { λ o r. returned r ≡ o };
+
+    fn from(o: Outcome) -> Self {
+        ParserCoreOutcome(o.number, o.place, o.count)
+    }
 }
 
 #[unsafe(no_mangle)]
@@ -36,7 +38,7 @@ pub extern "C" fn parser_core_run<'a>(
 ) -> ParserCoreOutcome
     ensures { Ran (input nodes.now literals.now text.now depth_limit call_limit tokens.old report.old (length scratch.old)) (outcome_of (returned result) tokens.new report.new) scratch.old scratch.new }
 {
-    let o = run(
+    run(
         nodes,
         literals,
         text,
@@ -45,14 +47,13 @@ pub extern "C" fn parser_core_run<'a>(
         tokens,
         report,
         scratch,
-    );
-    handed_back(o)
+    )
+    .into()
 }
 
 #[unsafe(no_mangle)]
 pub extern "C" fn parser_core_read_sheet(sheet: &[u8], nodes: &mut [i32]) -> ParserCoreOutcome
     ensures { SheetRead sheet.now nodes.old nodes.new (returned result) }
 {
-    let o = read_sheet(sheet, nodes);
-    handed_back(o)
+    read_sheet(sheet, nodes).into()
 }

@@ -1,5 +1,7 @@
 // The parser core as a static library: what C and Rust link. Each export calls the function of crate parser_core that has its name, and
-// promises what that one does: a crate is a library or a static library, not both.
+// promises what that one does.
+// Kept: the exports stand twice, here and in parser_core, for the C interface: a crate is a library or a static library, not both, and the
+// proofs and parser_core_test use them as a library.
 #![tactic(auto)]
 
 ghost use Rattle.std.specs.Prelude.{length};
