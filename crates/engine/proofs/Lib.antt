@@ -1,4 +1,3 @@
-pub mod StateFields
 pub mod Regions
 pub mod Moves
 pub mod StackSteps

@@ -18,8 +18,7 @@ use Rattle.reading.specs.declared.parser_state.Cause.{Cause}
 use Rattle.reading.specs.declared.parser_state.Cause.TheVariants as Cause-of
 use Rattle.reading.specs.declared.call_limit_tracker.LimitKind.TheVariants as LimitKind
 use Rattle.engine.specs.declared.attempts.Noted.{Noted}
-use Rattle.engine.specs.Fields as Code
-use Rattle.engine.specs.Fields.{state_size}
+use Rattle.engine.specs.declared.parser_state.ParserState as Code
 use Rattle.reading.specs.declared.parser_state.Ending as Coded
 use Rattle.reading.specs.declared.parser_state.Ending.TheVariants as Coded-of
 use Rattle.reading.specs.Ending.{Ending, Ok, Err, Stop, on_ok, stop_if}
@@ -67,10 +66,6 @@ refused_test false e = refl
 pub passed_test : (r : Bool) → not r ≡ false → r ≡ true
 passed_test true e = refl
 passed_test false e = absurd (true≢false e)
-
--- The state's area keeps its size.
-pub wide_on : {n k : ℕ} → state_size ≤ n → k ≡ n → state_size ≤ k
-wide_on h e = omega arith
 
 -- ── An entry ──
 -- Where no call may open, none does.
