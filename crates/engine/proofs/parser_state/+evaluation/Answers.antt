@@ -3,10 +3,11 @@ use mathlib.Core.Path.{◌≡◌, refl, ap, sym, ◌∙◌, subst}
 use mathlib.Core.Bool.{true, false, not}
 use lib.Dec.{ltb, eqb}
 use lib.ListN.{length}
+use Rattle.engine.specs.Fields.{set_position, set_lookahead, set_atomicity}
 use Rattle.engine.specs.Areas.{view, view_end}
 use Rattle.engine.specs.Entry.{opened, entering}
 use Rattle.engine.specs.Evaluation.{Ready, evaluated, setting_of}
-use Rattle.engine.proofs.Steps.{opened_by, refused_by, wide_on, deep, down, tests, ready_open, ready_less, ready_atom, atomic_step, atomic_refused, mark_of, ready_marked, ready_looking, body_ready, placed, lookahead_step, lookahead_refused, optional_step, optional_refused, told, refused_test, passed_test, restore_step, restore_refused, few_of, recording_of, begun, body_rule, place_of, held, rule_step, rule_refused, rule_err, rule_stop, marked_queue, sequence_step, sequence_refused, body_push, push_step, push_refused}
+use Rattle.engine.proofs.Steps.{opened_by, refused_by, deep, down, tests, ready_open, ready_less, ready_atom, atomic_step, atomic_refused, mark_of, ready_marked, ready_looking, body_ready, placed, lookahead_step, lookahead_refused, optional_step, optional_refused, told, refused_test, passed_test, restore_step, restore_refused, few_of, recording_of, begun, body_rule, place_of, held, rule_step, rule_refused, rule_err, rule_stop, marked_queue, sequence_step, sequence_refused, body_push, push_step, push_refused}
 use Rattle.engine.proofs.LineSteps.{whole, by_tree, at_13, at_12, at_11, fork_at, at_10, moves_10, at_18, at_8, at_9, rule_line, rule_runs, at_14}
 use Rattle.reading.specs.Grammar.{tree_at, kind_at}
 use native.Mathlib.Omega.{arith}
@@ -53,12 +54,12 @@ atomic-node-r-requires t c =
     1 ≤ c.args.depth =
     deep true _ (view c.args.tokens.now c.args.scratch.now c.args.s.now) (view c.args.tokens.now c.args.scratch.now c.enter.new.s) entered in
     let toned :
-    (view c.args.tokens.now c.args.scratch.now c.set_atomicity.new.s) ≡ Pest.set_atomicity c.atomicity_of.result (view c.args.tokens.now c.args.scratch.now c.enter.new.s) =
-    ap (view c.args.tokens.now c.args.scratch.now) refl in
+    (view c.args.tokens.now c.args.scratch.now (set_atomicity c.atomicity_of-s.result c.enter.new.s)) ≡ Pest.set_atomicity c.atomicity_of-s.result (view c.args.tokens.now c.args.scratch.now c.enter.new.s) =
+    refl in
     let toned_ready :
-    Ready c.args.g.now.nodes.now c.args.g.now.literals.now c.args.g.now.text.now c.args.tokens.now c.args.scratch.now c.args.g.now.room (c.args.depth - 1) (view c.args.tokens.now c.args.scratch.now c.set_atomicity.new.s) =
-    subst (λ (m : Pest.ParserState). Ready c.args.g.now.nodes.now c.args.g.now.literals.now c.args.g.now.text.now c.args.tokens.now c.args.scratch.now c.args.g.now.room (c.args.depth - 1) m) (sym toned) (ready_atom _ _ _ _ (ready_less _ _ _ _ open_ready) c.atomicity_of.result) in
-    (down _ _ _ t deep_open (at_13 _ _ (tests _ _ _ _ c.requires.ready) _ c.requires.line.0 _ c.line_at-n.ensures _ c.atomicity_of.ensures c.requires.line.1).0.high (tests _ _ _ _ c.requires.ready).few c.decreases, ((toned_ready, (wide_on wide c.set_atomicity.auto.s)), (at_13 _ _ (tests _ _ _ _ c.requires.ready) _ c.requires.line.0 _ c.line_at-n.ensures _ c.atomicity_of.ensures c.requires.line.1).0))
+    Ready c.args.g.now.nodes.now c.args.g.now.literals.now c.args.g.now.text.now c.args.tokens.now c.args.scratch.now c.args.g.now.room (c.args.depth - 1) (view c.args.tokens.now c.args.scratch.now (set_atomicity c.atomicity_of-s.result c.enter.new.s)) =
+    subst (λ (m : Pest.ParserState). Ready c.args.g.now.nodes.now c.args.g.now.literals.now c.args.g.now.text.now c.args.tokens.now c.args.scratch.now c.args.g.now.room (c.args.depth - 1) m) (sym toned) (ready_atom _ _ _ _ (ready_less _ _ _ _ open_ready) c.atomicity_of-s.result) in
+    (down _ _ _ t deep_open (at_13 _ _ (tests _ _ _ _ c.requires.ready) _ c.requires.line.0 _ c.line_at-n.ensures _ c.atomicity_of-s.ensures c.requires.line.1).0.high (tests _ _ _ _ c.requires.ready).few c.decreases, ((toned_ready), (at_13 _ _ (tests _ _ _ _ c.requires.ready) _ c.requires.line.0 _ c.line_at-n.ensures _ c.atomicity_of-s.ensures c.requires.line.1).0))
 
 pub atomic-returns : goal.atomic-returns
 atomic-returns t c =
@@ -69,9 +70,9 @@ atomic-returns t c =
     Ready c.args.g.now.nodes.now c.args.g.now.literals.now c.args.g.now.text.now c.args.tokens.now c.args.scratch.now c.args.g.now.room c.args.depth (view c.args.tokens.now c.args.scratch.now c.enter.new.s) =
     ready_open _ _ _ _ _ _ true _ _ (view c.args.tokens.now c.args.scratch.now c.enter.new.s) c.requires.ready entered in
     let toned :
-    (view c.args.tokens.now c.args.scratch.now c.set_atomicity.new.s) ≡ Pest.set_atomicity c.atomicity_of.result (view c.args.tokens.now c.args.scratch.now c.enter.new.s) =
-    ap (view c.args.tokens.now c.args.scratch.now) refl in
-    by_tree _ _ _ _ _ _ _ _ _ (at_13 _ _ (tests _ _ _ _ c.requires.ready) _ c.requires.line.0 _ c.line_at-n.ensures _ c.atomicity_of.ensures c.requires.line.1).1 (atomic_step _ _ _ _ _ c.line_at-n.result.a _ _ c.args.tokens.now c.args.scratch.now _ entered (ready_atom _ _ _ _ (ready_less _ _ _ _ open_ready) _) _ (c.node-r.ensures ∙ ap (λ (m : Pest.ParserState). evaluated c.args.g.now.nodes.now c.args.g.now.literals.now c.args.g.now.text.now c.args.g.now.room (c.args.depth - 1) (tree_at c.args.g.now.nodes.now c.args.g.now.literals.now c.line_at-n.result.a) m) toned) _ (sym refl) _ (c.atomic_end.ensures c.node-r.new.tokens c.node-r.new.scratch))
+    (view c.args.tokens.now c.args.scratch.now (set_atomicity c.atomicity_of-s.result c.enter.new.s)) ≡ Pest.set_atomicity c.atomicity_of-s.result (view c.args.tokens.now c.args.scratch.now c.enter.new.s) =
+    refl in
+    by_tree _ _ _ _ _ _ _ _ _ (at_13 _ _ (tests _ _ _ _ c.requires.ready) _ c.requires.line.0 _ c.line_at-n.ensures _ c.atomicity_of-s.ensures c.requires.line.1).1 (atomic_step _ _ _ _ _ c.line_at-n.result.a _ _ c.args.tokens.now c.args.scratch.now _ entered (ready_atom _ _ _ _ (ready_less _ _ _ _ open_ready) _) _ (c.node-r.ensures ∙ ap (λ (m : Pest.ParserState). evaluated c.args.g.now.nodes.now c.args.g.now.literals.now c.args.g.now.text.now c.args.g.now.room (c.args.depth - 1) (tree_at c.args.g.now.nodes.now c.args.g.now.literals.now c.line_at-n.result.a) m) toned) _ (sym refl) _ (c.atomic_end.ensures c.node-r.new.tokens c.node-r.new.scratch))
 
 -- ── left_side ──
 -- Down to the leftmost line, and up again line by line: each comes to what its own evaluation comes to (Walks, Climbs).
@@ -80,10 +81,10 @@ pub left_side-descend-low-requires : goal.left_side-descend-low-requires
 left_side-descend-low-requires t c = slopes _ _ _ _ _ _ _ _ _ c.requires.ready c.requires.line
 
 pub left_side-simple-e-requires : goal.left_side-simple-e-requires
-left_side-simple-e-requires t c = (omega (arith, c.decreases, low_upto _ _ _ _ _ _ _ _ _ c.requires.ready c.requires.line _ c.descend-low.ensures), ((c.requires.ready, c.requires.ready.1), (low_line _ _ _ _ _ _ _ _ _ c.requires.ready c.requires.line _ c.descend-low.ensures, c.descend-low.ensures.last)))
+left_side-simple-e-requires t c = (omega (arith, c.decreases, low_upto _ _ _ _ _ _ _ _ _ c.requires.ready c.requires.line _ c.descend-low.ensures), ((c.requires.ready), (low_line _ _ _ _ _ _ _ _ _ c.requires.ready c.requires.line _ c.descend-low.ensures, c.descend-low.ensures.last)))
 
 pub left_side-loop-i-init : goal.left_side-loop-i-init
-left_side-loop-i-init t c = (first_climb _ _ _ _ _ _ _ _ _ c.requires.ready c.requires.line _ c.descend-low.ensures _ _ _ c.simple-e.ensures, refl)
+left_side-loop-i-init t c = first_climb _ _ _ _ _ _ _ _ _ c.requires.ready c.requires.line _ c.descend-low.ensures _ _ _ c.simple-e.ensures
 
 pub left_side-spine_at-l-requires : goal.left_side-spine_at-l-requires
 left_side-spine_at-l-requires t c = (slopes _ _ _ _ _ _ _ _ _ c.requires.ready c.requires.line, forks_below _ _ _ _ _ _ _ _ _ c.requires.ready c.requires.line _ c.descend-low.ensures _ (omega (arith, c.loop-i.invariant.upto)))
@@ -92,13 +93,13 @@ pub left_side-line_at-n-requires : goal.left_side-line_at-n-requires
 left_side-line_at-n-requires t c = line_whole _ _ _ _ _ _ _ _ _ c.requires.ready c.requires.line _ c.descend-low.ensures _ _ (omega (arith, c.loop-i.invariant.upto)) c.spine_at-l.ensures
 
 pub left_side-node-e-requires : goal.left_side-node-e-requires
-left_side-node-e-requires t c = (omega (arith, c.decreases, (climb_in _ _ _ _ _ _ _ _ _ c.requires.ready c.requires.line _ c.descend-low.ensures _ _ _ c.simple-e.auto.tokens c.simple-e.auto.scratch _ _ _ _ c.loop-i.invariant c.loop-i-test.true _ c.spine_at-l.ensures _ c.line_at-n.ensures).1), ((go_ready _ _ _ _ _ _ _ _ _ c.requires.ready c.requires.line _ c.descend-low.ensures _ _ _ c.simple-e.auto.tokens c.simple-e.auto.scratch _ _ _ _ c.loop-i.invariant _ _ (goes_yes _ _ _ _ _ (sym c.goes_right.ensures ∙ c.if-goes_right.true)), (wide_on c.requires.ready.1 (c.loop-i.invariant.1 ∙ c.simple-e.auto.s))), climb_line _ _ _ _ _ _ _ _ _ c.requires.ready c.requires.line _ c.descend-low.ensures _ _ _ c.simple-e.auto.tokens c.simple-e.auto.scratch _ _ _ _ c.loop-i.invariant c.loop-i-test.true _ c.spine_at-l.ensures _ c.line_at-n.ensures))
+left_side-node-e-requires t c = (omega (arith, c.decreases, (climb_in _ _ _ _ _ _ _ _ _ c.requires.ready c.requires.line _ c.descend-low.ensures _ _ _ c.simple-e.auto.tokens c.simple-e.auto.scratch _ _ _ _ c.loop-i.invariant c.loop-i-test.true _ c.spine_at-l.ensures _ c.line_at-n.ensures).1), ((go_ready _ _ _ _ _ _ _ _ _ c.requires.ready c.requires.line _ c.descend-low.ensures _ _ _ c.simple-e.auto.tokens c.simple-e.auto.scratch _ _ _ _ c.loop-i.invariant _ _ (goes_yes _ _ _ _ _ (sym c.goes_right.ensures ∙ c.if-goes_right.true))), climb_line _ _ _ _ _ _ _ _ _ c.requires.ready c.requires.line _ c.descend-low.ensures _ _ _ c.simple-e.auto.tokens c.simple-e.auto.scratch _ _ _ _ c.loop-i.invariant c.loop-i-test.true _ c.spine_at-l.ensures _ c.line_at-n.ensures))
 
 pub left_side-loop-i-preserved-then-goes_right : goal.left_side-loop-i-preserved-then-goes_right
-left_side-loop-i-preserved-then-goes_right t c = (climb_go _ _ _ _ _ _ _ _ _ c.requires.ready c.requires.line _ c.descend-low.ensures _ _ _ c.simple-e.auto.tokens c.simple-e.auto.scratch _ _ _ _ c.loop-i.invariant c.loop-i-test.true _ c.spine_at-l.ensures _ c.line_at-n.ensures _ (goes_yes _ _ _ _ _ (sym c.goes_right.ensures ∙ c.if-goes_right.true)) _ _ _ c.node-e.ensures c.node-e.auto.tokens c.node-e.auto.scratch, c.node-e.auto.s ∙ c.loop-i.invariant.1)
+left_side-loop-i-preserved-then-goes_right t c = (climb_go _ _ _ _ _ _ _ _ _ c.requires.ready c.requires.line _ c.descend-low.ensures _ _ _ c.simple-e.auto.tokens c.simple-e.auto.scratch _ _ _ _ c.loop-i.invariant c.loop-i-test.true _ c.spine_at-l.ensures _ c.line_at-n.ensures _ (goes_yes _ _ _ _ _ (sym c.goes_right.ensures ∙ c.if-goes_right.true)) _ _ _ c.node-e.ensures c.node-e.auto.tokens c.node-e.auto.scratch)
 
 pub left_side-loop-i-preserved : goal.left_side-loop-i-preserved
-left_side-loop-i-preserved t c = (climb_stay _ _ _ _ _ _ _ _ _ c.requires.ready c.requires.line _ c.descend-low.ensures _ _ _ c.simple-e.auto.tokens c.simple-e.auto.scratch _ _ _ _ c.loop-i.invariant c.loop-i-test.true _ c.spine_at-l.ensures _ c.line_at-n.ensures (goes_no _ _ _ _ _ (sym c.goes_right.ensures ∙ c.if-goes_right.false)), c.loop-i.invariant.1)
+left_side-loop-i-preserved t c = (climb_stay _ _ _ _ _ _ _ _ _ c.requires.ready c.requires.line _ c.descend-low.ensures _ _ _ c.simple-e.auto.tokens c.simple-e.auto.scratch _ _ _ _ c.loop-i.invariant c.loop-i-test.true _ c.spine_at-l.ensures _ c.line_at-n.ensures (goes_no _ _ _ _ _ (sym c.goes_right.ensures ∙ c.if-goes_right.false)))
 
 pub left_side-returns : goal.left_side-returns
 left_side-returns t c = climbed _ _ _ _ _ _ _ _ _ c.requires.ready c.requires.line _ c.descend-low.ensures _ _ _ c.simple-e.auto.tokens c.simple-e.auto.scratch _ _ _ _ c.loop-i.invariant (omega (arith, c.loop-i-test.false)) c.simple-e.ensures
@@ -108,6 +109,47 @@ left_side-returns t c = climbed _ _ _ _ _ _ _ _ _ c.requires.ready c.requires.li
 
 pub lookahead-returns-then-not-enter : goal.lookahead-returns-then-not-enter
 lookahead-returns-then-not-enter t c = by_tree _ _ _ _ _ _ _ _ _ (at_12 _ _ (tests _ _ _ _ c.requires.ready) _ c.requires.line.0 _ c.line_at-n.ensures c.requires.line.1).1 (lookahead_refused _ _ _ _ _ c.line_at-n.result.a _ _ _ (refused_by c.enter.result _ _ (c.enter.ensures c.args.tokens.now c.args.scratch.now) (ap not c.if-not-enter.true)))
+
+pub lookahead-checkpoint-requires : goal.lookahead-checkpoint-requires
+lookahead-checkpoint-requires t c =
+    let entered :
+    opened (view c.args.tokens.now c.args.scratch.now c.enter.new.s) ≡ entering (ltb 0 c.args.depth) true (view c.args.tokens.now c.args.scratch.now c.args.s.now) =
+    opened_by c.enter.result _ _ (c.enter.ensures c.args.tokens.now c.args.scratch.now) (ap not c.if-not-enter.false) in
+    let open_ready :
+    Ready c.args.g.now.nodes.now c.args.g.now.literals.now c.args.g.now.text.now c.args.tokens.now c.args.scratch.now c.args.g.now.room c.args.depth (view c.args.tokens.now c.args.scratch.now c.enter.new.s) =
+    ready_open _ _ _ _ _ _ true _ _ (view c.args.tokens.now c.args.scratch.now c.enter.new.s) c.requires.ready entered in
+    let deep_open :
+    1 ≤ c.args.depth =
+    deep true _ (view c.args.tokens.now c.args.scratch.now c.args.s.now) (view c.args.tokens.now c.args.scratch.now c.enter.new.s) entered in
+    let looking :
+    (view c.args.tokens.now c.args.scratch.now (set_lookahead c.lookahead_in-s.result c.enter.new.s)) ≡ Pest.set_lookahead c.lookahead_in-s.result (view c.args.tokens.now c.args.scratch.now c.enter.new.s) =
+    refl in
+    let looking_ready :
+    Ready c.args.g.now.nodes.now c.args.g.now.literals.now c.args.g.now.text.now c.args.tokens.now c.args.scratch.now c.args.g.now.room c.args.depth (view c.args.tokens.now c.args.scratch.now (set_lookahead c.lookahead_in-s.result c.enter.new.s)) =
+    subst (λ (m : Pest.ParserState). Ready c.args.g.now.nodes.now c.args.g.now.literals.now c.args.g.now.text.now c.args.tokens.now c.args.scratch.now c.args.g.now.room c.args.depth m) (sym looking) (ready_looking _ _ _ _ open_ready c.lookahead_in-s.result) in
+    mark_of _ _ _ _ _ _ _ _ looking_ready deep_open
+
+pub lookahead-lookahead_end-requires : goal.lookahead-lookahead_end-requires
+lookahead-lookahead_end-requires t c =
+    let entered :
+    opened (view c.args.tokens.now c.args.scratch.now c.enter.new.s) ≡ entering (ltb 0 c.args.depth) true (view c.args.tokens.now c.args.scratch.now c.args.s.now) =
+    opened_by c.enter.result _ _ (c.enter.ensures c.args.tokens.now c.args.scratch.now) (ap not c.if-not-enter.false) in
+    let open_ready :
+    Ready c.args.g.now.nodes.now c.args.g.now.literals.now c.args.g.now.text.now c.args.tokens.now c.args.scratch.now c.args.g.now.room c.args.depth (view c.args.tokens.now c.args.scratch.now c.enter.new.s) =
+    ready_open _ _ _ _ _ _ true _ _ (view c.args.tokens.now c.args.scratch.now c.enter.new.s) c.requires.ready entered in
+    let deep_open :
+    1 ≤ c.args.depth =
+    deep true _ (view c.args.tokens.now c.args.scratch.now c.args.s.now) (view c.args.tokens.now c.args.scratch.now c.enter.new.s) entered in
+    let looking :
+    (view c.args.tokens.now c.args.scratch.now (set_lookahead c.lookahead_in-s.result c.enter.new.s)) ≡ Pest.set_lookahead c.lookahead_in-s.result (view c.args.tokens.now c.args.scratch.now c.enter.new.s) =
+    refl in
+    let looking_ready :
+    Ready c.args.g.now.nodes.now c.args.g.now.literals.now c.args.g.now.text.now c.args.tokens.now c.args.scratch.now c.args.g.now.room c.args.depth (view c.args.tokens.now c.args.scratch.now (set_lookahead c.lookahead_in-s.result c.enter.new.s)) =
+    subst (λ (m : Pest.ParserState). Ready c.args.g.now.nodes.now c.args.g.now.literals.now c.args.g.now.text.now c.args.tokens.now c.args.scratch.now c.args.g.now.room c.args.depth m) (sym looking) (ready_looking _ _ _ _ open_ready c.lookahead_in-s.result) in
+    let marked :
+    Ready c.args.g.now.nodes.now c.args.g.now.literals.now c.args.g.now.text.now c.args.tokens.now c.checkpoint.new.scratch c.args.g.now.room (c.args.depth - 1) (view c.args.tokens.now c.checkpoint.new.scratch c.checkpoint.new.s) =
+    ready_marked _ _ _ _ looking_ready deep_open _ _ (c.checkpoint.ensures.state_after c.args.tokens.now) c.checkpoint.auto.scratch in
+    body_ready _ _ _ _ _ c.line_at-n.result.a _ _ _ marked c.node-r.new.tokens c.node-r.new.scratch c.node-r.auto.scratch c.node-r.new.s c.node-r.result c.node-r.ensures 0 (omega arith)
 
 pub lookahead-overflow_sub-deeper : goal.lookahead-overflow_sub-deeper
 lookahead-overflow_sub-deeper t c =
@@ -131,15 +173,15 @@ lookahead-node-r-requires t c =
     1 ≤ c.args.depth =
     deep true _ (view c.args.tokens.now c.args.scratch.now c.args.s.now) (view c.args.tokens.now c.args.scratch.now c.enter.new.s) entered in
     let looking :
-    (view c.args.tokens.now c.args.scratch.now c.set_lookahead.new.s) ≡ Pest.set_lookahead c.lookahead_in.result (view c.args.tokens.now c.args.scratch.now c.enter.new.s) =
-    ap (view c.args.tokens.now c.args.scratch.now) refl in
+    (view c.args.tokens.now c.args.scratch.now (set_lookahead c.lookahead_in-s.result c.enter.new.s)) ≡ Pest.set_lookahead c.lookahead_in-s.result (view c.args.tokens.now c.args.scratch.now c.enter.new.s) =
+    refl in
     let looking_ready :
-    Ready c.args.g.now.nodes.now c.args.g.now.literals.now c.args.g.now.text.now c.args.tokens.now c.args.scratch.now c.args.g.now.room c.args.depth (view c.args.tokens.now c.args.scratch.now c.set_lookahead.new.s) =
-    subst (λ (m : Pest.ParserState). Ready c.args.g.now.nodes.now c.args.g.now.literals.now c.args.g.now.text.now c.args.tokens.now c.args.scratch.now c.args.g.now.room c.args.depth m) (sym looking) (ready_looking _ _ _ _ open_ready c.lookahead_in.result) in
+    Ready c.args.g.now.nodes.now c.args.g.now.literals.now c.args.g.now.text.now c.args.tokens.now c.args.scratch.now c.args.g.now.room c.args.depth (view c.args.tokens.now c.args.scratch.now (set_lookahead c.lookahead_in-s.result c.enter.new.s)) =
+    subst (λ (m : Pest.ParserState). Ready c.args.g.now.nodes.now c.args.g.now.literals.now c.args.g.now.text.now c.args.tokens.now c.args.scratch.now c.args.g.now.room c.args.depth m) (sym looking) (ready_looking _ _ _ _ open_ready c.lookahead_in-s.result) in
     let marked :
     Ready c.args.g.now.nodes.now c.args.g.now.literals.now c.args.g.now.text.now c.args.tokens.now c.checkpoint.new.scratch c.args.g.now.room (c.args.depth - 1) (view c.args.tokens.now c.checkpoint.new.scratch c.checkpoint.new.s) =
     ready_marked _ _ _ _ looking_ready deep_open _ _ (c.checkpoint.ensures.state_after c.args.tokens.now) c.checkpoint.auto.scratch in
-    (down _ _ _ t deep_open (at_12 _ _ (tests _ _ _ _ c.requires.ready) _ c.requires.line.0 _ c.line_at-n.ensures c.requires.line.1).0.high (tests _ _ _ _ c.requires.ready).few c.decreases, ((marked, (wide_on (wide_on wide c.set_lookahead.auto.s) c.checkpoint.auto.s)), (at_12 _ _ (tests _ _ _ _ c.requires.ready) _ c.requires.line.0 _ c.line_at-n.ensures c.requires.line.1).0))
+    (down _ _ _ t deep_open (at_12 _ _ (tests _ _ _ _ c.requires.ready) _ c.requires.line.0 _ c.line_at-n.ensures c.requires.line.1).0.high (tests _ _ _ _ c.requires.ready).few c.decreases, ((marked), (at_12 _ _ (tests _ _ _ _ c.requires.ready) _ c.requires.line.0 _ c.line_at-n.ensures c.requires.line.1).0))
 
 pub lookahead-returns : goal.lookahead-returns
 lookahead-returns t c =
@@ -147,9 +189,9 @@ lookahead-returns t c =
     opened (view c.args.tokens.now c.args.scratch.now c.enter.new.s) ≡ entering (ltb 0 c.args.depth) true (view c.args.tokens.now c.args.scratch.now c.args.s.now) =
     opened_by c.enter.result _ _ (c.enter.ensures c.args.tokens.now c.args.scratch.now) (ap not c.if-not-enter.false) in
     let looking :
-    (view c.args.tokens.now c.args.scratch.now c.set_lookahead.new.s) ≡ Pest.set_lookahead c.lookahead_in.result (view c.args.tokens.now c.args.scratch.now c.enter.new.s) =
-    ap (view c.args.tokens.now c.args.scratch.now) refl in
-    by_tree _ _ _ _ _ _ _ _ _ (at_12 _ _ (tests _ _ _ _ c.requires.ready) _ c.requires.line.0 _ c.line_at-n.ensures c.requires.line.1).1 (lookahead_step _ _ _ _ _ c.line_at-n.result.a _ _ (eqb c.line_at-n.result.b 1) entered _ (sym refl) _ (c.checkpoint.ensures.state_after c.args.tokens.now ∙ ap Pest.checkpoint (looking ∙ ap (λ (l : Lookahead). Pest.set_lookahead l (view c.args.tokens.now c.args.scratch.now c.enter.new.s)) c.lookahead_in.ensures)) _ c.node-r.ensures _ (placed refl) _ (c.lookahead_end.ensures c.node-r.new.tokens))
+    (view c.args.tokens.now c.args.scratch.now (set_lookahead c.lookahead_in-s.result c.enter.new.s)) ≡ Pest.set_lookahead c.lookahead_in-s.result (view c.args.tokens.now c.args.scratch.now c.enter.new.s) =
+    refl in
+    by_tree _ _ _ _ _ _ _ _ _ (at_12 _ _ (tests _ _ _ _ c.requires.ready) _ c.requires.line.0 _ c.line_at-n.ensures c.requires.line.1).1 (lookahead_step _ _ _ _ _ c.line_at-n.result.a _ _ (eqb c.line_at-n.result.b 1) entered _ (sym refl) _ (c.checkpoint.ensures.state_after c.args.tokens.now ∙ ap Pest.checkpoint (looking ∙ ap (λ (l : Lookahead). Pest.set_lookahead l (view c.args.tokens.now c.args.scratch.now c.enter.new.s)) c.lookahead_in-s.ensures)) _ c.node-r.ensures _ (placed refl) _ (c.lookahead_end.ensures c.node-r.new.tokens))
 
 -- ── optional ──
 -- An open entry, the body, `optional_end`: put together by `optional-step`.
@@ -178,7 +220,7 @@ optional-node-r-requires t c =
     let deep_open :
     1 ≤ c.args.depth =
     deep true _ (view c.args.tokens.now c.args.scratch.now c.args.s.now) (view c.args.tokens.now c.args.scratch.now c.enter.new.s) entered in
-    (down _ _ _ t deep_open (at_11 _ _ (tests _ _ _ _ c.requires.ready) _ c.requires.line.0 _ c.line_at-n.ensures c.requires.line.1).0.high (tests _ _ _ _ c.requires.ready).few c.decreases, ((ready_less _ _ _ _ open_ready, wide), (at_11 _ _ (tests _ _ _ _ c.requires.ready) _ c.requires.line.0 _ c.line_at-n.ensures c.requires.line.1).0))
+    (down _ _ _ t deep_open (at_11 _ _ (tests _ _ _ _ c.requires.ready) _ c.requires.line.0 _ c.line_at-n.ensures c.requires.line.1).0.high (tests _ _ _ _ c.requires.ready).few c.decreases, ((ready_less _ _ _ _ open_ready), (at_11 _ _ (tests _ _ _ _ c.requires.ready) _ c.requires.line.0 _ c.line_at-n.ensures c.requires.line.1).0))
 
 pub optional-returns : goal.optional-returns
 optional-returns t c =
@@ -194,22 +236,22 @@ pub packed_node-returns-then-w : goal.packed_node-returns-then-w
 packed_node-returns-then-w t c =
     let walked :
     Walked c.args.g.now.nodes.now c.args.g.now.literals.now c.args.g.now.text.now c.args.g.now.room c.args.depth c.loop-w.at (view c.loop-w.tokens c.loop-w.scratch c.loop-w.s) c.walk-w.result =
-    c.walk-w.ensures c.args.g.now.room c.args.depth (view c.loop-w.tokens c.loop-w.scratch c.loop-w.s) c.loop-w.invariant.ready.fit (placed refl) in
+    c.walk-w.ensures c.args.depth (view c.loop-w.tokens c.loop-w.scratch c.loop-w.s) c.loop-w.invariant.ready.fit refl in
     let put :
-    (view c.loop-w.tokens c.loop-w.scratch c.set_position.new.s) ≡ Pest.set_position c.walk-w.result.position.0 (view c.loop-w.tokens c.loop-w.scratch c.loop-w.s) =
-    ap (view c.loop-w.tokens c.loop-w.scratch) refl in
-    ap (view_end c.loop-w.tokens c.loop-w.scratch c.set_position.new.s) (c.packed.ensures.back ∙ c.ended.ensures) ∙ answers c.loop-w.tokens c.loop-w.scratch c.set_position.new.s c.walk-w.result.good ∙ ap (answer c.walk-w.result.good) put ∙ walked.ended c.if-w.true ∙ c.loop-w.invariant.runs
+    (view c.loop-w.tokens c.loop-w.scratch (set_position c.walk-w.result.position c.loop-w.s)) ≡ Pest.set_position c.walk-w.result.position.0 (view c.loop-w.tokens c.loop-w.scratch c.loop-w.s) =
+    refl in
+    ap (view_end c.loop-w.tokens c.loop-w.scratch (set_position c.walk-w.result.position c.loop-w.s)) (c.packed.ensures.back ∙ c.ended.ensures) ∙ answers c.loop-w.tokens c.loop-w.scratch (set_position c.walk-w.result.position c.loop-w.s) c.walk-w.result.good ∙ ap (answer c.walk-w.result.good) put ∙ walked.ended c.if-w.true ∙ c.loop-w.invariant.runs
 
 pub packed_node-line_at-n-requires : goal.packed_node-line_at-n-requires
 packed_node-line_at-n-requires t c =
     let walked :
     Walked c.args.g.now.nodes.now c.args.g.now.literals.now c.args.g.now.text.now c.args.g.now.room c.args.depth c.loop-w.at (view c.loop-w.tokens c.loop-w.scratch c.loop-w.s) c.walk-w.result =
-    c.walk-w.ensures c.args.g.now.room c.args.depth (view c.loop-w.tokens c.loop-w.scratch c.loop-w.s) c.loop-w.invariant.ready.fit (placed refl) in
+    c.walk-w.ensures c.args.depth (view c.loop-w.tokens c.loop-w.scratch c.loop-w.s) c.loop-w.invariant.ready.fit refl in
     let put :
-    (view c.loop-w.tokens c.loop-w.scratch c.set_position.new.s) ≡ Pest.set_position c.walk-w.result.position.0 (view c.loop-w.tokens c.loop-w.scratch c.loop-w.s) =
-    ap (view c.loop-w.tokens c.loop-w.scratch) refl in
+    (view c.loop-w.tokens c.loop-w.scratch (set_position c.walk-w.result.position c.loop-w.s)) ≡ Pest.set_position c.walk-w.result.position.0 (view c.loop-w.tokens c.loop-w.scratch c.loop-w.s) =
+    refl in
     let on :
-    Walking c.args.g.now.nodes.now c.args.g.now.literals.now c.args.g.now.text.now c.args.g.now.room c.args.depth c.args.line c.args.tokens.now c.args.scratch.now (view c.args.tokens.now c.args.scratch.now c.args.s.now) c.loop-w.tokens c.loop-w.scratch c.walk-w.result.line (view c.loop-w.tokens c.loop-w.scratch c.set_position.new.s) =
+    Walking c.args.g.now.nodes.now c.args.g.now.literals.now c.args.g.now.text.now c.args.g.now.room c.args.depth c.args.line c.args.tokens.now c.args.scratch.now (view c.args.tokens.now c.args.scratch.now c.args.s.now) c.loop-w.tokens c.loop-w.scratch c.walk-w.result.line (view c.loop-w.tokens c.loop-w.scratch (set_position c.walk-w.result.position c.loop-w.s)) =
     subst (λ (m : Pest.ParserState). Walking c.args.g.now.nodes.now c.args.g.now.literals.now c.args.g.now.text.now c.args.g.now.room c.args.depth c.args.line c.args.tokens.now c.args.scratch.now (view c.args.tokens.now c.args.scratch.now c.args.s.now) c.loop-w.tokens c.loop-w.scratch c.walk-w.result.line m) (sym put) (walk_on _ _ _ _ _ _ _ _ _ _ _ _ _ c.loop-w.invariant _ _ (walked.going c.if-w.false)) in
     whole _ _ (tests _ _ _ _ c.requires.ready) _ on.here
 
@@ -217,25 +259,25 @@ pub packed_node-left_side-e-requires : goal.packed_node-left_side-e-requires
 packed_node-left_side-e-requires t c =
     let walked :
     Walked c.args.g.now.nodes.now c.args.g.now.literals.now c.args.g.now.text.now c.args.g.now.room c.args.depth c.loop-w.at (view c.loop-w.tokens c.loop-w.scratch c.loop-w.s) c.walk-w.result =
-    c.walk-w.ensures c.args.g.now.room c.args.depth (view c.loop-w.tokens c.loop-w.scratch c.loop-w.s) c.loop-w.invariant.ready.fit (placed refl) in
+    c.walk-w.ensures c.args.depth (view c.loop-w.tokens c.loop-w.scratch c.loop-w.s) c.loop-w.invariant.ready.fit refl in
     let put :
-    (view c.loop-w.tokens c.loop-w.scratch c.set_position.new.s) ≡ Pest.set_position c.walk-w.result.position.0 (view c.loop-w.tokens c.loop-w.scratch c.loop-w.s) =
-    ap (view c.loop-w.tokens c.loop-w.scratch) refl in
+    (view c.loop-w.tokens c.loop-w.scratch (set_position c.walk-w.result.position c.loop-w.s)) ≡ Pest.set_position c.walk-w.result.position.0 (view c.loop-w.tokens c.loop-w.scratch c.loop-w.s) =
+    refl in
     let on :
-    Walking c.args.g.now.nodes.now c.args.g.now.literals.now c.args.g.now.text.now c.args.g.now.room c.args.depth c.args.line c.args.tokens.now c.args.scratch.now (view c.args.tokens.now c.args.scratch.now c.args.s.now) c.loop-w.tokens c.loop-w.scratch c.walk-w.result.line (view c.loop-w.tokens c.loop-w.scratch c.set_position.new.s) =
+    Walking c.args.g.now.nodes.now c.args.g.now.literals.now c.args.g.now.text.now c.args.g.now.room c.args.depth c.args.line c.args.tokens.now c.args.scratch.now (view c.args.tokens.now c.args.scratch.now c.args.s.now) c.loop-w.tokens c.loop-w.scratch c.walk-w.result.line (view c.loop-w.tokens c.loop-w.scratch (set_position c.walk-w.result.position c.loop-w.s)) =
     subst (λ (m : Pest.ParserState). Walking c.args.g.now.nodes.now c.args.g.now.literals.now c.args.g.now.text.now c.args.g.now.room c.args.depth c.args.line c.args.tokens.now c.args.scratch.now (view c.args.tokens.now c.args.scratch.now c.args.s.now) c.loop-w.tokens c.loop-w.scratch c.walk-w.result.line m) (sym put) (walk_on _ _ _ _ _ _ _ _ _ _ _ _ _ c.loop-w.invariant _ _ (walked.going c.if-w.false)) in
-    (omega (arith, c.decreases, on.upto), ((on.ready, (wide_on (wide_on c.requires.ready.1 c.loop-w.invariant.1) c.set_position.auto.s)), on.here))
+    (omega (arith, c.decreases, on.upto), ((on.ready), on.here))
 
 pub packed_node-returns-then-not-goes_right : goal.packed_node-returns-then-not-goes_right
 packed_node-returns-then-not-goes_right t c =
     let walked :
     Walked c.args.g.now.nodes.now c.args.g.now.literals.now c.args.g.now.text.now c.args.g.now.room c.args.depth c.loop-w.at (view c.loop-w.tokens c.loop-w.scratch c.loop-w.s) c.walk-w.result =
-    c.walk-w.ensures c.args.g.now.room c.args.depth (view c.loop-w.tokens c.loop-w.scratch c.loop-w.s) c.loop-w.invariant.ready.fit (placed refl) in
+    c.walk-w.ensures c.args.depth (view c.loop-w.tokens c.loop-w.scratch c.loop-w.s) c.loop-w.invariant.ready.fit refl in
     let put :
-    (view c.loop-w.tokens c.loop-w.scratch c.set_position.new.s) ≡ Pest.set_position c.walk-w.result.position.0 (view c.loop-w.tokens c.loop-w.scratch c.loop-w.s) =
-    ap (view c.loop-w.tokens c.loop-w.scratch) refl in
+    (view c.loop-w.tokens c.loop-w.scratch (set_position c.walk-w.result.position c.loop-w.s)) ≡ Pest.set_position c.walk-w.result.position.0 (view c.loop-w.tokens c.loop-w.scratch c.loop-w.s) =
+    refl in
     let on :
-    Walking c.args.g.now.nodes.now c.args.g.now.literals.now c.args.g.now.text.now c.args.g.now.room c.args.depth c.args.line c.args.tokens.now c.args.scratch.now (view c.args.tokens.now c.args.scratch.now c.args.s.now) c.loop-w.tokens c.loop-w.scratch c.walk-w.result.line (view c.loop-w.tokens c.loop-w.scratch c.set_position.new.s) =
+    Walking c.args.g.now.nodes.now c.args.g.now.literals.now c.args.g.now.text.now c.args.g.now.room c.args.depth c.args.line c.args.tokens.now c.args.scratch.now (view c.args.tokens.now c.args.scratch.now c.args.s.now) c.loop-w.tokens c.loop-w.scratch c.walk-w.result.line (view c.loop-w.tokens c.loop-w.scratch (set_position c.walk-w.result.position c.loop-w.s)) =
     subst (λ (m : Pest.ParserState). Walking c.args.g.now.nodes.now c.args.g.now.literals.now c.args.g.now.text.now c.args.g.now.room c.args.depth c.args.line c.args.tokens.now c.args.scratch.now (view c.args.tokens.now c.args.scratch.now c.args.s.now) c.loop-w.tokens c.loop-w.scratch c.walk-w.result.line m) (sym put) (walk_on _ _ _ _ _ _ _ _ _ _ _ _ _ c.loop-w.invariant _ _ (walked.going c.if-w.false)) in
     told _ _ _ _ _ _ (top_stay _ _ _ _ _ _ _ _ _ on.ready on.here _ c.left_side-e.ensures _ c.line_at-n.ensures (goes_no _ _ _ _ _ (sym c.goes_right.ensures ∙ refused_test c.goes_right.result (ap not c.if-not-goes_right.true))) ∙ on.runs) (sym c.packed-then-not-goes_right.ensures.back)
 
@@ -243,12 +285,12 @@ pub packed_node-loop-w-smaller : goal.packed_node-loop-w-smaller
 packed_node-loop-w-smaller t c =
     let walked :
     Walked c.args.g.now.nodes.now c.args.g.now.literals.now c.args.g.now.text.now c.args.g.now.room c.args.depth c.loop-w.at (view c.loop-w.tokens c.loop-w.scratch c.loop-w.s) c.walk-w.result =
-    c.walk-w.ensures c.args.g.now.room c.args.depth (view c.loop-w.tokens c.loop-w.scratch c.loop-w.s) c.loop-w.invariant.ready.fit (placed refl) in
+    c.walk-w.ensures c.args.depth (view c.loop-w.tokens c.loop-w.scratch c.loop-w.s) c.loop-w.invariant.ready.fit refl in
     let put :
-    (view c.loop-w.tokens c.loop-w.scratch c.set_position.new.s) ≡ Pest.set_position c.walk-w.result.position.0 (view c.loop-w.tokens c.loop-w.scratch c.loop-w.s) =
-    ap (view c.loop-w.tokens c.loop-w.scratch) refl in
+    (view c.loop-w.tokens c.loop-w.scratch (set_position c.walk-w.result.position c.loop-w.s)) ≡ Pest.set_position c.walk-w.result.position.0 (view c.loop-w.tokens c.loop-w.scratch c.loop-w.s) =
+    refl in
     let on :
-    Walking c.args.g.now.nodes.now c.args.g.now.literals.now c.args.g.now.text.now c.args.g.now.room c.args.depth c.args.line c.args.tokens.now c.args.scratch.now (view c.args.tokens.now c.args.scratch.now c.args.s.now) c.loop-w.tokens c.loop-w.scratch c.walk-w.result.line (view c.loop-w.tokens c.loop-w.scratch c.set_position.new.s) =
+    Walking c.args.g.now.nodes.now c.args.g.now.literals.now c.args.g.now.text.now c.args.g.now.room c.args.depth c.args.line c.args.tokens.now c.args.scratch.now (view c.args.tokens.now c.args.scratch.now c.args.s.now) c.loop-w.tokens c.loop-w.scratch c.walk-w.result.line (view c.loop-w.tokens c.loop-w.scratch (set_position c.walk-w.result.position c.loop-w.s)) =
     subst (λ (m : Pest.ParserState). Walking c.args.g.now.nodes.now c.args.g.now.literals.now c.args.g.now.text.now c.args.g.now.room c.args.depth c.args.line c.args.tokens.now c.args.scratch.now (view c.args.tokens.now c.args.scratch.now c.args.s.now) c.loop-w.tokens c.loop-w.scratch c.walk-w.result.line m) (sym put) (walk_on _ _ _ _ _ _ _ _ _ _ _ _ _ c.loop-w.invariant _ _ (walked.going c.if-w.false)) in
     let is_fork :
     Fork (kind_at c.args.g.now.nodes.now c.walk-w.result.line) =
@@ -259,17 +301,17 @@ pub packed_node-loop-w-preserved : goal.packed_node-loop-w-preserved
 packed_node-loop-w-preserved t c =
     let walked :
     Walked c.args.g.now.nodes.now c.args.g.now.literals.now c.args.g.now.text.now c.args.g.now.room c.args.depth c.loop-w.at (view c.loop-w.tokens c.loop-w.scratch c.loop-w.s) c.walk-w.result =
-    c.walk-w.ensures c.args.g.now.room c.args.depth (view c.loop-w.tokens c.loop-w.scratch c.loop-w.s) c.loop-w.invariant.ready.fit (placed refl) in
+    c.walk-w.ensures c.args.depth (view c.loop-w.tokens c.loop-w.scratch c.loop-w.s) c.loop-w.invariant.ready.fit refl in
     let put :
-    (view c.loop-w.tokens c.loop-w.scratch c.set_position.new.s) ≡ Pest.set_position c.walk-w.result.position.0 (view c.loop-w.tokens c.loop-w.scratch c.loop-w.s) =
-    ap (view c.loop-w.tokens c.loop-w.scratch) refl in
+    (view c.loop-w.tokens c.loop-w.scratch (set_position c.walk-w.result.position c.loop-w.s)) ≡ Pest.set_position c.walk-w.result.position.0 (view c.loop-w.tokens c.loop-w.scratch c.loop-w.s) =
+    refl in
     let on :
-    Walking c.args.g.now.nodes.now c.args.g.now.literals.now c.args.g.now.text.now c.args.g.now.room c.args.depth c.args.line c.args.tokens.now c.args.scratch.now (view c.args.tokens.now c.args.scratch.now c.args.s.now) c.loop-w.tokens c.loop-w.scratch c.walk-w.result.line (view c.loop-w.tokens c.loop-w.scratch c.set_position.new.s) =
+    Walking c.args.g.now.nodes.now c.args.g.now.literals.now c.args.g.now.text.now c.args.g.now.room c.args.depth c.args.line c.args.tokens.now c.args.scratch.now (view c.args.tokens.now c.args.scratch.now c.args.s.now) c.loop-w.tokens c.loop-w.scratch c.walk-w.result.line (view c.loop-w.tokens c.loop-w.scratch (set_position c.walk-w.result.position c.loop-w.s)) =
     subst (λ (m : Pest.ParserState). Walking c.args.g.now.nodes.now c.args.g.now.literals.now c.args.g.now.text.now c.args.g.now.room c.args.depth c.args.line c.args.tokens.now c.args.scratch.now (view c.args.tokens.now c.args.scratch.now c.args.s.now) c.loop-w.tokens c.loop-w.scratch c.walk-w.result.line m) (sym put) (walk_on _ _ _ _ _ _ _ _ _ _ _ _ _ c.loop-w.invariant _ _ (walked.going c.if-w.false)) in
     let is_fork :
     Fork (kind_at c.args.g.now.nodes.now c.walk-w.result.line) =
     fork_at _ _ _ c.line_at-n.ensures (goes_fork _ _ (sym c.goes_right.ensures ∙ passed_test c.goes_right.result (ap not c.if-not-goes_right.false))) in
-    (top_go _ _ _ _ _ _ _ _ _ on.ready on.here is_fork c.left_side-e.new.tokens c.left_side-e.new.scratch c.left_side-e.auto.tokens c.left_side-e.auto.scratch _ c.left_side-e.ensures _ c.line_at-n.ensures _ _ _ _ on _ (goes_yes _ _ _ _ _ (sym c.goes_right.ensures ∙ passed_test c.goes_right.result (ap not c.if-not-goes_right.false))), c.left_side-e.auto.s ∙ c.set_position.auto.s ∙ c.loop-w.invariant.1)
+    (top_go _ _ _ _ _ _ _ _ _ on.ready on.here is_fork c.left_side-e.new.tokens c.left_side-e.new.scratch c.left_side-e.auto.tokens c.left_side-e.auto.scratch _ c.left_side-e.ensures _ c.line_at-n.ensures _ _ _ _ on _ (goes_yes _ _ _ _ _ (sym c.goes_right.ensures ∙ passed_test c.goes_right.result (ap not c.if-not-goes_right.false))))
 
 -- ── repeat ──
 -- Each turn is the body once more: what is left to run is what was to run (Turns). The body moves on Ok, so that the turns end.
@@ -295,7 +337,7 @@ repeat-loop-s-init t c =
     let open_ready :
     Ready c.args.g.now.nodes.now c.args.g.now.literals.now c.args.g.now.text.now c.args.tokens.now c.args.scratch.now c.args.g.now.room c.args.depth (view c.args.tokens.now c.args.scratch.now c.enter.new.s) =
     ready_open _ _ _ _ _ _ true _ _ (view c.args.tokens.now c.args.scratch.now c.enter.new.s) c.requires.ready entered in
-    (first_turn _ _ _ _ _ c.line_at-n.result.a _ _ _ (ready_less _ _ _ _ open_ready), refl)
+    first_turn _ _ _ _ _ c.line_at-n.result.a _ _ _ (ready_less _ _ _ _ open_ready)
 
 pub repeat-node-requires : goal.repeat-node-requires
 repeat-node-requires t c =
@@ -305,13 +347,13 @@ repeat-node-requires t c =
     let deep_open :
     1 ≤ c.args.depth =
     deep true _ (view c.args.tokens.now c.args.scratch.now c.args.s.now) (view c.args.tokens.now c.args.scratch.now c.enter.new.s) entered in
-    (down _ _ _ t deep_open (at_10 _ _ (tests _ _ _ _ c.requires.ready) _ c.requires.line.0 _ c.line_at-n.ensures c.requires.line.1).0.high (tests _ _ _ _ c.requires.ready).few c.decreases, ((c.loop-s.invariant.ready, (wide_on wide c.loop-s.invariant.1)), (at_10 _ _ (tests _ _ _ _ c.requires.ready) _ c.requires.line.0 _ c.line_at-n.ensures c.requires.line.1).0))
+    (down _ _ _ t deep_open (at_10 _ _ (tests _ _ _ _ c.requires.ready) _ c.requires.line.0 _ c.line_at-n.ensures c.requires.line.1).0.high (tests _ _ _ _ c.requires.ready).few c.decreases, ((c.loop-s.invariant.ready), (at_10 _ _ (tests _ _ _ _ c.requires.ready) _ c.requires.line.0 _ c.line_at-n.ensures c.requires.line.1).0))
 
 pub repeat-loop-s-smaller : goal.repeat-loop-s-smaller
 repeat-loop-s-smaller t c = let w = turned c.args.g.now.nodes.now c.args.g.now.literals.now c.args.g.now.text.now c.args.g.now.room c.args.depth c.line_at-n.result.a c.loop-s.tokens c.loop-s.scratch (view c.loop-s.tokens c.loop-s.scratch c.loop-s.s) (view c.node.new.tokens c.node.new.scratch c.node.new.s) c.loop-s.invariant.ready (at_10 _ _ (tests _ _ _ _ c.requires.ready) _ c.requires.line.0 _ c.line_at-n.ensures c.requires.line.1).0 (moves_10 _ _ (tests _ _ _ _ c.requires.ready) _ c.requires.line.0 _ c.line_at-n.ensures c.requires.line.1) (told _ _ _ _ _ _ c.node.ensures c.in-Ok.is) in omega (arith, w.0, w.1)
 
 pub repeat-loop-s-preserved : goal.repeat-loop-s-preserved
-repeat-loop-s-preserved t c = (next_turn c.args.g.now.nodes.now c.args.g.now.literals.now c.args.g.now.text.now c.args.g.now.room c.args.depth c.line_at-n.result.a _ _ _ _ _ _ _ _ (view c.node.new.tokens c.node.new.scratch c.node.new.s) (at_10 _ _ (tests _ _ _ _ c.requires.ready) _ c.requires.line.0 _ c.line_at-n.ensures c.requires.line.1).0 (moves_10 _ _ (tests _ _ _ _ c.requires.ready) _ c.requires.line.0 _ c.line_at-n.ensures c.requires.line.1) c.loop-s.invariant (told _ _ _ _ _ _ c.node.ensures c.in-Ok.is) c.node.auto.tokens c.node.auto.scratch, c.node.auto.s ∙ c.loop-s.invariant.1)
+repeat-loop-s-preserved t c = (next_turn c.args.g.now.nodes.now c.args.g.now.literals.now c.args.g.now.text.now c.args.g.now.room c.args.depth c.line_at-n.result.a _ _ _ _ _ _ _ _ (view c.node.new.tokens c.node.new.scratch c.node.new.s) (at_10 _ _ (tests _ _ _ _ c.requires.ready) _ c.requires.line.0 _ c.line_at-n.ensures c.requires.line.1).0 (moves_10 _ _ (tests _ _ _ _ c.requires.ready) _ c.requires.line.0 _ c.line_at-n.ensures c.requires.line.1) c.loop-s.invariant (told _ _ _ _ _ _ c.node.ensures c.in-Ok.is) c.node.auto.tokens c.node.auto.scratch)
 
 pub repeat-returns-in-Err : goal.repeat-returns-in-Err
 repeat-returns-in-Err t c =
@@ -370,7 +412,7 @@ restore_on_err-node-r-requires t c =
     let marked :
     Ready c.args.g.now.nodes.now c.args.g.now.literals.now c.args.g.now.text.now c.args.tokens.now c.checkpoint.new.scratch c.args.g.now.room (c.args.depth - 1) (view c.args.tokens.now c.checkpoint.new.scratch c.checkpoint.new.s) =
     ready_marked _ _ _ _ open_ready deep_open _ _ (c.checkpoint.ensures.state_after c.args.tokens.now) c.checkpoint.auto.scratch in
-    (down _ _ _ t deep_open (at_18 _ _ (tests _ _ _ _ c.requires.ready) _ c.requires.line.0 _ c.line_at-n.ensures c.requires.line.1).0.high (tests _ _ _ _ c.requires.ready).few c.decreases, ((marked, (wide_on wide c.checkpoint.auto.s)), (at_18 _ _ (tests _ _ _ _ c.requires.ready) _ c.requires.line.0 _ c.line_at-n.ensures c.requires.line.1).0))
+    (down _ _ _ t deep_open (at_18 _ _ (tests _ _ _ _ c.requires.ready) _ c.requires.line.0 _ c.line_at-n.ensures c.requires.line.1).0.high (tests _ _ _ _ c.requires.ready).few c.decreases, ((marked), (at_18 _ _ (tests _ _ _ _ c.requires.ready) _ c.requires.line.0 _ c.line_at-n.ensures c.requires.line.1).0))
 
 pub restore_on_err-restore_on_err_end-requires : goal.restore_on_err-restore_on_err_end-requires
 restore_on_err-restore_on_err_end-requires t c =
@@ -409,7 +451,7 @@ rule-note-noted-requires t c =
     let open_ready :
     Ready c.args.g.now.nodes.now c.args.g.now.literals.now c.args.g.now.text.now c.args.tokens.now c.args.scratch.now c.args.g.now.room c.args.depth (view c.args.tokens.now c.args.scratch.now c.enter.new.s) =
     ready_open _ _ _ _ _ _ true _ _ (view c.args.tokens.now c.args.scratch.now c.enter.new.s) c.requires.ready entered in
-    subst Few (sym c.attempts.ensures) (few_of _ _ _ _ c.args.tokens.now c.args.scratch.now _ c.enter.new.s open_ready)
+    (few_of _ _ _ _ c.args.tokens.now c.args.scratch.now _ c.enter.new.s open_ready)
 
 pub rule-start_rule-requires : goal.rule-start_rule-requires
 rule-start_rule-requires t c =
@@ -448,7 +490,7 @@ rule-node-r-requires t c =
     let started_ready :
     Ready c.args.g.now.nodes.now c.args.g.now.literals.now c.args.g.now.text.now c.start_rule.new.tokens c.args.scratch.now c.args.g.now.room (c.args.depth - 1) (view c.start_rule.new.tokens c.args.scratch.now c.start_rule.new.s) =
     begun _ _ _ _ open_ready _ _ _ started c.start_rule.auto.tokens in
-    (down _ _ _ t deep_open (at_8 _ _ (tests _ _ _ _ c.requires.ready) _ c.requires.line.0 _ c.line_at-n.ensures c.requires.line.1).0.high (tests _ _ _ _ c.requires.ready).few c.decreases, ((started_ready, (wide_on wide c.start_rule.auto.s)), (at_8 _ _ (tests _ _ _ _ c.requires.ready) _ c.requires.line.0 _ c.line_at-n.ensures c.requires.line.1).0))
+    (down _ _ _ t deep_open (at_8 _ _ (tests _ _ _ _ c.requires.ready) _ c.requires.line.0 _ c.line_at-n.ensures c.requires.line.1).0.high (tests _ _ _ _ c.requires.ready).few c.decreases, ((started_ready), (at_8 _ _ (tests _ _ _ _ c.requires.ready) _ c.requires.line.0 _ c.line_at-n.ensures c.requires.line.1).0))
 
 pub rule-overflow_cast-number : goal.rule-overflow_cast-number
 rule-overflow_cast-number t c = let h = (at_8 _ _ (tests _ _ _ _ c.requires.ready) _ c.requires.line.0 _ c.line_at-n.ensures c.requires.line.1).1 in omega arith
@@ -477,7 +519,7 @@ rule-returns-in-Ok t c =
     let started :
     Ok (view c.start_rule.new.tokens c.args.scratch.now c.start_rule.new.s) ≡ starting (setting_of c.args.g.now.nodes.now c.args.g.now.literals.now c.args.g.now.text.now c.args.g.now.room) c.args.line (view c.args.tokens.now c.args.scratch.now c.enter.new.s) =
     told _ _ _ _ _ _ (c.start_rule.ensures.state_after (setting_of c.args.g.now.nodes.now c.args.g.now.literals.now c.args.g.now.text.now c.args.g.now.room) c.args.scratch.now refl) c.in-Ok.is in
-    by_tree _ _ _ _ _ _ _ _ _ (at_8 _ _ (tests _ _ _ _ c.requires.ready) _ c.requires.line.0 _ c.line_at-n.ensures c.requires.line.1).2 (rule_step _ _ _ _ _ c.line_at-n.result.b _ _ _ _ entered _ started _ c.node-r.ensures _ (held _ refl) _ (placed refl) _ (c.note-noted.ensures c.args.scratch.now ∙ ap (λ (a : Attempts). noted c.position-p.result.0 (tried c.args.scratch.now a)) c.attempts.ensures) _ (c.rule_end.ensures (setting_of c.args.g.now.nodes.now c.args.g.now.literals.now c.args.g.now.text.now c.args.g.now.room) refl))
+    by_tree _ _ _ _ _ _ _ _ _ (at_8 _ _ (tests _ _ _ _ c.requires.ready) _ c.requires.line.0 _ c.line_at-n.ensures c.requires.line.1).2 (rule_step _ _ _ _ _ c.line_at-n.result.b _ _ _ _ entered _ started _ c.node-r.ensures _ (held _ refl) _ (placed refl) _ (c.note-noted.ensures c.args.scratch.now) _ (c.rule_end.ensures (setting_of c.args.g.now.nodes.now c.args.g.now.literals.now c.args.g.now.text.now c.args.g.now.room) refl))
 
 pub rule-returns-in-Err : goal.rule-returns-in-Err
 rule-returns-in-Err t c =
@@ -536,7 +578,7 @@ sequence-node-r-requires t c =
     let marked :
     Ready c.args.g.now.nodes.now c.args.g.now.literals.now c.args.g.now.text.now c.args.tokens.now c.checkpoint.new.scratch c.args.g.now.room (c.args.depth - 1) (view c.args.tokens.now c.checkpoint.new.scratch c.checkpoint.new.s) =
     ready_marked _ _ _ _ open_ready deep_open _ _ (c.checkpoint.ensures.state_after c.args.tokens.now) c.checkpoint.auto.scratch in
-    (down _ _ _ t deep_open (at_9 _ _ (tests _ _ _ _ c.requires.ready) _ c.requires.line.0 _ c.line_at-n.ensures c.requires.line.1).0.high (tests _ _ _ _ c.requires.ready).few c.decreases, ((marked, (wide_on wide c.checkpoint.auto.s)), (at_9 _ _ (tests _ _ _ _ c.requires.ready) _ c.requires.line.0 _ c.line_at-n.ensures c.requires.line.1).0))
+    (down _ _ _ t deep_open (at_9 _ _ (tests _ _ _ _ c.requires.ready) _ c.requires.line.0 _ c.line_at-n.ensures c.requires.line.1).0.high (tests _ _ _ _ c.requires.ready).few c.decreases, ((marked), (at_9 _ _ (tests _ _ _ _ c.requires.ready) _ c.requires.line.0 _ c.line_at-n.ensures c.requires.line.1).0))
 
 pub sequence-sequence_end-requires : goal.sequence-sequence_end-requires
 sequence-sequence_end-requires t c =
@@ -565,7 +607,7 @@ sequence-returns t c =
 -- Each kind's function answers for its line; a call is evaluated as the rule that it names.
 
 pub simple-rule-requires : goal.simple-rule-requires
-simple-rule-requires t c = (omega (arith, c.decreases), ((c.requires.ready, c.requires.ready.1), rule_line _ _ (tests _ _ _ _ c.requires.ready) _ c.requires.line.0 _ c.line_at-n.ensures c.in-8.is _ c.rule_line-at.ensures))
+simple-rule-requires t c = (omega (arith, c.decreases), ((c.requires.ready), rule_line _ _ (tests _ _ _ _ c.requires.ready) _ c.requires.line.0 _ c.line_at-n.ensures c.in-8.is _ c.rule_line-at.ensures))
 
 pub simple-returns-in-8 : goal.simple-returns-in-8
 simple-returns-in-8 t c = rule_runs _ _ (tests _ _ _ _ c.requires.ready) _ c.requires.line.0 _ c.line_at-n.ensures c.in-8.is _ c.rule_line-at.ensures _ _ _ _ _ c.rule.ensures
@@ -597,7 +639,7 @@ stack_push-node-r-requires t c =
     let deep_open :
     1 ≤ c.args.depth =
     deep true _ (view c.args.tokens.now c.args.scratch.now c.args.s.now) (view c.args.tokens.now c.args.scratch.now c.enter.new.s) entered in
-    (down _ _ _ t deep_open (at_14 _ _ (tests _ _ _ _ c.requires.ready) _ c.requires.line.0 _ c.line_at-n.ensures c.requires.line.1).0.high (tests _ _ _ _ c.requires.ready).few c.decreases, ((ready_less _ _ _ _ open_ready, wide), (at_14 _ _ (tests _ _ _ _ c.requires.ready) _ c.requires.line.0 _ c.line_at-n.ensures c.requires.line.1).0))
+    (down _ _ _ t deep_open (at_14 _ _ (tests _ _ _ _ c.requires.ready) _ c.requires.line.0 _ c.line_at-n.ensures c.requires.line.1).0.high (tests _ _ _ _ c.requires.ready).few c.decreases, ((ready_less _ _ _ _ open_ready), (at_14 _ _ (tests _ _ _ _ c.requires.ready) _ c.requires.line.0 _ c.line_at-n.ensures c.requires.line.1).0))
 
 pub stack_push-push_end-requires : goal.stack_push-push_end-requires
 stack_push-push_end-requires t c =
@@ -607,7 +649,7 @@ stack_push-push_end-requires t c =
     let open_ready :
     Ready c.args.g.now.nodes.now c.args.g.now.literals.now c.args.g.now.text.now c.args.tokens.now c.args.scratch.now c.args.g.now.room c.args.depth (view c.args.tokens.now c.args.scratch.now c.enter.new.s) =
     ready_open _ _ _ _ _ _ true _ _ (view c.args.tokens.now c.args.scratch.now c.enter.new.s) c.requires.ready entered in
-    body_push _ _ _ _ _ c.line_at-n.result.a _ _ _ (ready_less _ _ _ _ open_ready) c.node-r.new.tokens c.node-r.new.scratch c.node-r.auto.scratch c.node-r.new.s c.node-r.result c.node-r.ensures c.position-p.result (omega (arith, open_ready.fit.edge.inside, placed refl))
+    body_push _ _ _ _ _ c.line_at-n.result.a _ _ _ (ready_less _ _ _ _ open_ready) c.node-r.new.tokens c.node-r.new.scratch c.node-r.auto.scratch c.node-r.new.s c.node-r.result c.node-r.ensures c.enter.new.s.position (omega (arith, open_ready.fit.edge.inside))
 
 pub stack_push-returns : goal.stack_push-returns
 stack_push-returns t c =
