@@ -18,6 +18,7 @@ pub mod RuleLaws
 pub mod RuleEnds
 pub mod ConcludeLaws
 pub mod Steps
+pub mod LetIn
 pub mod Turns
 pub mod LineFields
 pub mod LineSteps

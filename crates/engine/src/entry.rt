@@ -1,18 +1,22 @@
 // The entry of a combinator: pest's `inc_call_check_limit` and `check_stack_limit`.
-ghost use Rattle.std.specs.Prelude.{◌≡◌, List, ℕ, ◌≤◌, ltb, length};
+ghost use Rattle.std.specs.Prelude.{◌≡◌, List, ℕ};
 ghost use Rattle.reading.specs.Pest as Pest;
 ghost use Rattle.engine.specs.Areas.{view};
-ghost use Rattle.engine.specs.Entry.{entering, view_entry};
+ghost use Rattle.engine.specs.Entry.{EnteredBy};
 
 use crate::parser_state::ParserState;
 use checks::call_limit_tracker;
 use checks::call_limit_tracker::LimitReached;
 
-// Whether the call is let in: the tracker goes to checks, which lends it to pest's `enter`. `depth`: how many more calls may be open.
-pub(crate) fn enter(s: &mut ParserState, counted: bool, depth: usize) -> bool
-    ensures { (tokens scratch : List ℕ) → view_entry result (view tokens scratch s.new) ≡ entering (ltb 0 depth) counted (view tokens scratch s.old) }
+// How many more calls may be open below a call that is let in; `depth`: how many before it. The tracker is lent to pest's `enter`.
+pub(crate) fn enter(s: &mut ParserState, counted: bool, depth: usize) -> Option<usize>
+    ensures { EnteredBy counted depth s.old s.new result }
 {
-    call_limit_tracker::enter(&mut s.tracker, counted, depth)
+    if call_limit_tracker::enter(&mut s.tracker, counted, depth) {
+        Some(depth - 1)
+    } else {
+        None
+    }
 }
 
 // Whether a limit cause is set.

@@ -275,15 +275,14 @@ fn rule(
     ensures { view_end tokens.new scratch.new s.new result ≡ evaluates g.now depth line (view tokens.old scratch.old s.old) }
 {
     let n = line_at(g.nodes, line);
-    if !enter(s, true, depth) {
+    let Some(deeper) = enter(s, true, depth) else {
         return Ending::Err;
-    }
+    };
     let p = s.position;
     let q = s.queue;
     let noted = note(s.attempts, p);
     match start_rule(tokens, s, g.room, line as u32) {
         Ending::Ok => {
-            let deeper = depth - 1;
             let r = node(g, tokens, scratch, s, deeper, n.b);
             let number = n.a as u32;
             let at = line as u32;
@@ -309,13 +308,12 @@ fn sequence(
     ensures { view_end tokens.new scratch.new s.new result ≡ evaluates g.now depth line (view tokens.old scratch.old s.old) }
 {
     let n = line_at(g.nodes, line);
-    if !enter(s, true, depth) {
+    let Some(deeper) = enter(s, true, depth) else {
         return Ending::Err;
-    }
+    };
     let p = s.position;
     let q = s.queue;
     checkpoint(scratch, s);
-    let deeper = depth - 1;
     let r = node(g, tokens, scratch, s, deeper, n.a);
     sequence_end(scratch, s, p, q, r)
 }
@@ -335,10 +333,9 @@ fn repeat(
     ensures { view_end tokens.new scratch.new s.new result ≡ evaluates g.now depth line (view tokens.old scratch.old s.old) }
 {
     let n = line_at(g.nodes, line);
-    if !enter(s, true, depth) {
+    let Some(deeper) = enter(s, true, depth) else {
         return Ending::Err;
-    }
-    let deeper = depth - 1;
+    };
     loop {
         match node(g, tokens, scratch, s, deeper, n.a) {
             Ending::Ok => {}
@@ -367,10 +364,9 @@ fn optional(
     ensures { view_end tokens.new scratch.new s.new result ≡ evaluates g.now depth line (view tokens.old scratch.old s.old) }
 {
     let n = line_at(g.nodes, line);
-    if !enter(s, true, depth) {
+    let Some(deeper) = enter(s, true, depth) else {
         return Ending::Err;
-    }
-    let deeper = depth - 1;
+    };
     let r = node(g, tokens, scratch, s, deeper, n.a);
     optional_end(s, r)
 }
@@ -390,15 +386,14 @@ fn lookahead(
     ensures { view_end tokens.new scratch.new s.new result ≡ evaluates g.now depth line (view tokens.old scratch.old s.old) }
 {
     let n = line_at(g.nodes, line);
-    if !enter(s, true, depth) {
+    let Some(deeper) = enter(s, true, depth) else {
         return Ending::Err;
-    }
+    };
     let p = s.position;
     let l = s.lookahead;
     let positive = n.b == 1;
     s.lookahead = lookahead_in(positive, l);
     checkpoint(scratch, s);
-    let deeper = depth - 1;
     let r = node(g, tokens, scratch, s, deeper, n.a);
     lookahead_end(scratch, s, positive, l, p, r)
 }
@@ -418,12 +413,11 @@ fn atomic(
     ensures { view_end tokens.new scratch.new s.new result ≡ evaluates g.now depth line (view tokens.old scratch.old s.old) }
 {
     let n = line_at(g.nodes, line);
-    if !enter(s, true, depth) {
+    let Some(deeper) = enter(s, true, depth) else {
         return Ending::Err;
-    }
+    };
     let before = s.atomicity;
     s.atomicity = atomicity_of(n.b);
-    let deeper = depth - 1;
     let r = node(g, tokens, scratch, s, deeper, n.a);
     atomic_end(s, before, r)
 }
@@ -443,11 +437,10 @@ fn stack_push(
     ensures { view_end tokens.new scratch.new s.new result ≡ evaluates g.now depth line (view tokens.old scratch.old s.old) }
 {
     let n = line_at(g.nodes, line);
-    if !enter(s, true, depth) {
+    let Some(deeper) = enter(s, true, depth) else {
         return Ending::Err;
-    }
+    };
     let p = s.position;
-    let deeper = depth - 1;
     let r = node(g, tokens, scratch, s, deeper, n.a);
     push_end(scratch, s, line as u32, p, r)
 }
@@ -467,11 +460,10 @@ fn restore_on_err(
     ensures { view_end tokens.new scratch.new s.new result ≡ evaluates g.now depth line (view tokens.old scratch.old s.old) }
 {
     let n = line_at(g.nodes, line);
-    if !enter(s, false, depth) {
+    let Some(deeper) = enter(s, false, depth) else {
         return Ending::Err;
-    }
+    };
     checkpoint(scratch, s);
-    let deeper = depth - 1;
     let r = node(g, tokens, scratch, s, deeper, n.a);
     restore_on_err_end(scratch, s, r)
 }

@@ -59,7 +59,7 @@ decreases-packed_node-loop-w l = l.at
 
 abbrev pub invariant-repeat-loop-s : goal.invariant-repeat-loop-s
 invariant-repeat-loop-s l =
-    Turning l.g.nodes.now l.g.literals.now l.g.text.now l.g.room l.depth l.n.a l.initial.tokens l.initial.scratch (view l.initial.tokens l.initial.scratch l.initial.s) l.tokens l.scratch (view l.tokens l.scratch l.s)
+    Turning l.g.nodes.now l.g.literals.now l.g.text.now l.g.room l.deeper l.n.a l.initial.tokens l.initial.scratch (view l.initial.tokens l.initial.scratch l.initial.s) l.tokens l.scratch (view l.tokens l.scratch l.s)
 
 abbrev pub decreases-repeat-loop-s : goal.decreases-repeat-loop-s
 decreases-repeat-loop-s l = length l.g.text.now - l.s.position.0
