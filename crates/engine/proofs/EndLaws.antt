@@ -17,6 +17,7 @@ use Rattle.reading.specs.declared.parser_state.Atomicity.{Atomicity}
 use Rattle.reading.specs.declared.parser_state.Ending as Declared
 use Rattle.reading.specs.declared.parser_state.Ending.TheVariants as Variants
 use Rattle.engine.specs.Fields as Code
+use Rattle.engine.specs.declared.parser_state.ParserState as CodeState
 use Rattle.reading.specs.Ending.{Ok, Err}
 use Rattle.reading.specs.Pest.{ParserState, QueueableToken, set_position, set_queue, set_lookahead, limit_reached, moved}
 use Rattle.engine.specs.Areas.{view, view_end, queue_of}
@@ -26,10 +27,10 @@ use Rattle.engine.specs.Ends.{looking, atomic_back}
 use Rattle.engine.proofs.TokenLaws.{queue_take}
 
 -- ── the state before a restore ──
-abbrev pub back_to : Code.ParserState → BytePosition → TokenIndex → Lookahead → Code.ParserState
+abbrev pub back_to : CodeState.ParserState → BytePosition → TokenIndex → Lookahead → CodeState.ParserState
 back_to s p i l = Code.set_lookahead l (Code.set_queue i (Code.set_position p s))
 
-module _ (a : List ℕ) (s t : Code.ParserState) (p : BytePosition) (i : TokenIndex) (l : Lookahead) (e : t ≡ back_to s p i l) where
+module _ (a : List ℕ) (s t : CodeState.ParserState) (p : BytePosition) (i : TokenIndex) (l : Lookahead) (e : t ≡ back_to s p i l) where
   -- A state is ready by its stack and its attempts alone.
   pub back_ready : StateReady a s → StateReady a t
   back_ready h = rw e (record { stack = h.stack; positives = h.positives; negatives = h.negatives })
@@ -38,9 +39,9 @@ module _ (a : List ℕ) (s t : Code.ParserState) (p : BytePosition) (i : TokenIn
   cut_view tokens h = ap (view tokens a) e ∙ ap (λ (q : List QueueableToken). set_lookahead l (set_queue q (set_position p.0 (view tokens a s)))) (sym (queue_take tokens s.queue.0 i.0 h))
 
 -- ── the atomicity ──
-pub atomic_set : (tokens scratch : List ℕ) (s t : Code.ParserState) (a : Atomicity) (r : Declared.Ending) → t ≡ Code.set_atomicity a s → view_end tokens scratch t r ≡ atomic_back a (view_end tokens scratch s r)
-atomic_set tokens scratch s t a Variants.Ok e = ap (λ (u : Code.ParserState). Ok (view tokens scratch u)) e
-atomic_set tokens scratch s t a Variants.Err e = ap (λ (u : Code.ParserState). Err (view tokens scratch u)) e
+pub atomic_set : (tokens scratch : List ℕ) (s t : CodeState.ParserState) (a : Atomicity) (r : Declared.Ending) → t ≡ Code.set_atomicity a s → view_end tokens scratch t r ≡ atomic_back a (view_end tokens scratch s r)
+atomic_set tokens scratch s t a Variants.Ok e = ap (λ (u : CodeState.ParserState). Ok (view tokens scratch u)) e
+atomic_set tokens scratch s t a Variants.Err e = ap (λ (u : CodeState.ParserState). Err (view tokens scratch u)) e
 atomic_set tokens scratch s t a (Variants.Stop c) e = refl
 
 -- ── the answer of a lookahead ──

@@ -12,6 +12,7 @@ use Rattle.checks.specs.declared.call_limit_tracker.CallLimitTracker as Code
 use Rattle.checks.specs.Tracker.{reading_of, admitted, answered, tracker_of}
 use Rattle.checks.proofs.TrackerLaws.{pest_answers}
 use Rattle.engine.specs.Fields as Fields
+use Rattle.engine.specs.declared.parser_state.ParserState as FieldsState
 use Rattle.engine.specs.Areas.{view}
 use Rattle.engine.specs.Entry.{opened, refused, entering, view_entry, go_on}
 
@@ -21,10 +22,10 @@ entered_is true room counted m t e = rw (← e)
 entered_is false room counted m t e = rw (← e)
 
 -- v is the tracker that the code read, b and w what an entry answers, with the tracker w for the state.
-pub entry_is : (b room counted : Bool) (s t : Fields.ParserState) (v w : Code.CallLimitTracker) → v ≡ s.tracker → answered b w ≡ admitted v (enter room counted (reading_of v))
+pub entry_is : (b room counted : Bool) (s t : FieldsState.ParserState) (v w : Code.CallLimitTracker) → v ≡ s.tracker → answered b w ≡ admitted v (enter room counted (reading_of v))
     → t ≡ Fields.set_tracker w s → (tokens scratch : List ℕ) → view_entry b (view tokens scratch t) ≡ entering room counted (view tokens scratch s)
 entry_is b room counted s t v w ev e et tokens scratch =
-    ap (λ (u : Fields.ParserState). view_entry b (view tokens scratch u)) et
+    ap (λ (u : FieldsState.ParserState). view_entry b (view tokens scratch u)) et
     ∙ entered_is b room counted (view tokens scratch s) (tracker_of w) (pest_answers b room counted v w e ∙ ap (λ (u : Code.CallLimitTracker). Pest.enter room counted (tracker_of u)) ev)
 
 -- How the combinators' own words use it.

@@ -17,7 +17,7 @@ use Rattle.matching.specs.declared.position.BytePosition.{BytePosition}
 use Rattle.matching.specs.declared.position.Matched.{Matched}
 use Rattle.matching.specs.declared.position.Matched.TheVariants as Matched-of
 use Rattle.engine.specs.declared.node.Line as Read
-use Rattle.engine.specs.Fields as Code
+use Rattle.engine.specs.declared.parser_state.ParserState as Code
 use Rattle.reading.specs.Ending.{Ending, Ok, Err}
 use Rattle.reading.specs.Fit.{Fit}
 use Rattle.reading.specs.Grammar.{node_at, kind_at, tree_at}

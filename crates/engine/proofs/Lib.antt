@@ -1,4 +1,3 @@
-pub mod StateFields
 pub mod Regions
 pub mod Moves
 pub mod StackSteps
@@ -19,6 +18,7 @@ pub mod RuleLaws
 pub mod RuleEnds
 pub mod ConcludeLaws
 pub mod Steps
+pub mod LetIn
 pub mod Turns
 pub mod LineFields
 pub mod LineSteps

@@ -8,7 +8,7 @@ use lib.ListN.{length}
 use lib.Dec.{ltb}
 use Rattle.reading.specs.declared.parser_state.Cause.TheVariants.{AttemptsFull}
 use Rattle.engine.specs.declared.attempts.Noted.{Noted}
-use Rattle.engine.specs.Fields as Code
+use Rattle.engine.specs.declared.parser_state.ParserState as Code
 use Rattle.reading.specs.declared.parser_state.Ending as Code·ending
 use Rattle.reading.specs.declared.parser_state.Ending.TheVariants as Code·of
 use Rattle.reading.specs.Ending.{Ending, Ok, Err, Stop, on_ok, stop_if, is_negative, is_atomic}

@@ -19,6 +19,7 @@ use Rattle.engine.specs.declared.attempts.Noted.{Noted}
 use Rattle.engine.specs.declared.attempts.Attempts.{Attempts}
 use Rattle.engine.specs.declared.stack.Stack.{Stack}
 use Rattle.engine.specs.Fields as Declared
+use Rattle.engine.specs.declared.parser_state.ParserState as DeclaredState
 use Rattle.reading.specs.Ending.{Ending, Ok, Stop, on_ok, stop_if, is_negative, is_none, is_atomic}
 use Rattle.reading.specs.Reading.{Setting, most_attempts}
 use Rattle.reading.specs.Pest as Pest
@@ -69,7 +70,7 @@ module _ (g : Setting) (line : ℕ) (m : ParserState) where
   start_off f = when_false (produces m) (Ok m) (push_token g true line (Start 0 m.position) m (λ s. Ok s)) f
 
 -- What was read of the state, put for what the state has.
-pub pushed_at : (a b : List ℕ) (s : Declared.ParserState) (n : TokenIndex) (p : BytePosition) (f : ℕ → QueueableToken) → n ≡ s.queue → p ≡ s.position → Pushed a n.0 (f p.0) b
+pub pushed_at : (a b : List ℕ) (s : DeclaredState.ParserState) (n : TokenIndex) (p : BytePosition) (f : ℕ → QueueableToken) → n ≡ s.queue → p ≡ s.position → Pushed a n.0 (f p.0) b
     → Pushed a s.queue.0 (f s.position.0) b
 pushed_at a b s n p f e h q = rw (e, h) at q
 
@@ -106,7 +107,7 @@ module _ (a : List ℕ) (n q : TokenIndex) (same : n ≡ q) (capacity c : ℕ) (
   room_no h = let k : n.0 ≡ q.0 = ap (λ (x : TokenIndex). x.0) same in omega (arith, queue_length a q.0)
 
 -- What a push asks.
-module _ {tokens : List ℕ} {room : ℕ} (s : Declared.ParserState) (ready : Recording tokens room s) where
+module _ {tokens : List ℕ} {room : ℕ} (s : DeclaredState.ParserState) (ready : Recording tokens room s) where
   pub room_left : (n : TokenIndex) → n.0 < room → n.0 * 5 + 5 ≤ length tokens
   room_left n l = omega (arith, ready.room)
 
@@ -114,7 +115,7 @@ module _ {tokens : List ℕ} {room : ℕ} (s : Declared.ParserState) (ready : Re
   near_read p e = rw e ready.near
 
 -- One more token than were read.
-pub one_more : (tokens scratch : List ℕ) (s t : Declared.ParserState) (n : TokenIndex) → n ≡ s.queue → t ≡ Declared.set_queue (record { 0 = n.0 + 1 }) s
+pub one_more : (tokens scratch : List ℕ) (s t : DeclaredState.ParserState) (n : TokenIndex) → n ≡ s.queue → t ≡ Declared.set_queue (record { 0 = n.0 + 1 }) s
     → view tokens scratch t ≡ set_queue (queue_of tokens (s.queue.0 + 1)) (view tokens scratch s)
 one_more tokens scratch s t n e h = rw (h, e)
 
@@ -129,7 +130,7 @@ module _ (a b : List ℕ) (i n : ℕ) where
 pub paired_queue : (a b : List ℕ) (i n : ℕ) → Paired a i n b → queue_of b n ≡ partnered i (queue_of a n)
 paired_queue a b i n p = p.queue ∙ ap (λ (k : ℕ). set (queue_of a n) i (with_end k (get_or (queue_of a n) i (Start 0 0)))) (sym (queue_length a n))
 
-pub paired_at : (a b : List ℕ) (s : Declared.ParserState) (n : TokenIndex) (i : ℕ) → n ≡ s.queue → Paired a i n.0 b → Paired a i s.queue.0 b
+pub paired_at : (a b : List ℕ) (s : DeclaredState.ParserState) (n : TokenIndex) (i : ℕ) → n ≡ s.queue → Paired a i n.0 b → Paired a i s.queue.0 b
 paired_at a b s n i e h = rw e at h
 
 -- ── drop ──
@@ -169,7 +170,7 @@ stack_kept a b s h p o = sym (λ i. record {
 })
 
 -- The state with other attempts, seen from the area as tracking left it.
-pub kept_view : (tokens a b : List ℕ) (s : Declared.ParserState) (u : Attempts) → s.stack.height ≤ 128 → s.stack.popped ≤ 1024 → Outside positives_at lengths_at a b
+pub kept_view : (tokens a b : List ℕ) (s : DeclaredState.ParserState) (u : Attempts) → s.stack.height ≤ 128 → s.stack.popped ≤ 1024 → Outside positives_at lengths_at a b
     → view tokens b (Declared.set_attempts u s)
     ≡ with_tried (tried b u) (view tokens a s)
 kept_view tokens a b s u h p o = ap (λ (v : Pest.Stack). Pest.set_stack v (with_tried (tried b u) (view tokens a s))) (stack_kept a b s.stack h p o)

@@ -12,7 +12,7 @@ use Rattle.reading.specs.declared.parser_state.Lookahead.TheVariants as Looks
 use Rattle.reading.specs.declared.parser_state.Atomicity.TheVariants.{NonAtomic}
 use Rattle.checks.specs.declared.call_limit_tracker.LimitReached.TheVariants.{No}
 use Rattle.checks.specs.declared.grammar.Refused.TheVariants.{By}
-use Rattle.engine.specs.Fields as State
+use Rattle.engine.specs.declared.parser_state.ParserState as State
 use Rattle.reading.specs.declared.parser_state.Ending as Declared
 use Rattle.reading.specs.declared.parser_state.Ending.TheVariants as Code
 use Rattle.reading.specs.Ending.{Ending, Ok, Err, Stop}

@@ -24,7 +24,7 @@ use Rattle.engine.specs.declared.stack.Popped.{Popped}
 use Rattle.checks.specs.declared.node.Index.{Index}
 use Rattle.engine.specs.declared.stack_match.MatchPopped.{MatchPopped}
 use Rattle.engine.specs.Fields as Fields
-use Rattle.engine.specs.Fields.{ParserState}
+use Rattle.engine.specs.declared.parser_state.ParserState.{ParserState}
 use Rattle.reading.specs.declared.parser_state.Cause.TheVariants.{EmptyStack, StackFull}
 use Rattle.reading.specs.Ending.{Ending, Ok, Err, Stop, stop_if, Span}
 use Rattle.reading.specs.Reading.{debt}

@@ -4,7 +4,7 @@ use Rattle.reading.specs.declared.parser_state.Ending as Declared
 use Rattle.reading.specs.declared.parser_state.Ending.TheVariants as Code
 use Rattle.engine.specs.declared.state.Outcome as Returned
 use Rattle.reading.specs.Outcome.{Outcome}
-use Rattle.engine.specs.Fields as State
+use Rattle.engine.specs.declared.parser_state.ParserState as State
 use Rattle.engine.specs.Report.{Reportable}
 
 -- What a function returns, with the areas as they then stand.

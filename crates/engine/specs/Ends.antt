@@ -4,7 +4,7 @@ use Rattle.matching.specs.declared.position.BytePosition.{BytePosition}
 use Rattle.reading.specs.declared.parser_state.Atomicity.{Atomicity}
 use Rattle.reading.specs.declared.parser_state.Ending as Declared
 use Rattle.reading.specs.declared.parser_state.Ending.TheVariants as Code
-use Rattle.engine.specs.Fields as State
+use Rattle.engine.specs.declared.parser_state.ParserState as State
 use Rattle.reading.specs.Ending.{Ending, Ok, Err, Stop}
 use Rattle.reading.specs.Pest.{ParserState, set_atomicity, limit_reached}
 use Rattle.engine.specs.StackReady.{StateReady, PushReady}

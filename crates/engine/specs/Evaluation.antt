@@ -3,12 +3,14 @@ use Rattle.std.specs.Prelude.{◌≡◌, Bool, true, ◌||◌, List, ℕ, ◌+�
 use Rattle.std.specs.Prelude.{None}
 use Rattle.matching.specs.Utf8.{within}
 use Rattle.reading.specs.Ending.{Ending}
-use Rattle.reading.specs.Grammar.{Exp, line_count, misfit, rule_at}
+use Rattle.reading.specs.Grammar.{Exp, line_count, misfit, rule_at, kind_at, tree_at}
 use Rattle.reading.specs.Nullable.{still_repeat}
 use Rattle.reading.specs.Reading.{Setting}
 use Rattle.reading.specs.Pest as Pest
 use Rattle.reading.specs.Pest.{ParserState}
-use Rattle.engine.specs.Areas.{scratch_size}
+use Rattle.engine.specs.declared.parser_state.ParserState as Code
+use Rattle.engine.specs.declared.parser_state.Setting as Given
+use Rattle.engine.specs.Areas.{scratch_size, view}
 use Rattle.engine.specs.StackReady.{most_checkpoints}
 use Rattle.reading.specs.Fit.{Fit}
 
@@ -39,3 +41,18 @@ evaluated ns literals text capacity depth e m = Pest.eval (setting_of ns literal
 -- Kinds 8 to 14 and 18 open a call, and so does a call's line.
 abbrev pub opens_call : (kind : ℕ) → Bool
 opens_call k = within 8 14 k || (eqb k 18 || eqb k 20)
+
+-- ── Of the code's setting and state ──
+abbrev pub ReadyOf : Given.Setting → (tokens scratch : List ℕ) → (depth : ℕ) → Code.ParserState → Type 0
+ReadyOf g tokens scratch depth s = Ready g.nodes.now g.literals.now g.text.now tokens scratch g.room depth (view tokens scratch s)
+
+-- The grammar's tests have passed.
+abbrev pub Accepted : Given.Setting → Type 0
+Accepted g = (misfit g.nodes.now g.literals.now ≡ None) × (still_repeat g.nodes.now ≡ None)
+
+-- A line of this kind.
+abbrev pub LineOf : Given.Setting → (kind line : ℕ) → Type 0
+LineOf g k line = Line g.nodes.now line × (kind_at g.nodes.now line ≡ k)
+
+abbrev pub evaluates : Given.Setting → (depth line : ℕ) → ParserState → Ending ParserState
+evaluates g depth line m = evaluated g.nodes.now g.literals.now g.text.now g.room depth (tree_at g.nodes.now g.literals.now line) m

@@ -1,7 +1,6 @@
 // The end of a run: what it returns, and what then stands in its areas. Document 01, "Stops and refusals".
 ghost use Rattle.std.specs.Prelude.{◌≡◌, ◌*◌, ◌≤◌, length};
 ghost use Rattle.reading.specs.Ending as Model;
-ghost use Rattle.engine.specs.Fields.{state_size, fields};
 ghost use Rattle.engine.specs.Areas.{queue_of, view, view_end};
 ghost use Rattle.reading.specs.Answer.{tokens_of};
 ghost use Rattle.engine.specs.Attempts.{tried};
@@ -12,7 +11,7 @@ ghost use Rattle.reading.specs.Answer.{pest_answer};
 ghost use Rattle.engine.specs.Conclude.{outcome_of, Concluding, ConcludeReady};
 
 use crate::attempts::{Attempts, write_report};
-use crate::fields::{attempts, queue, tracker};
+use crate::parser_state::ParserState;
 use crate::queueable_token::{clear, write_tokens};
 use crate::state::Outcome;
 use checks::call_limit_tracker::LimitReached;
@@ -94,29 +93,27 @@ fn of_failure(tokens: &mut [u32], scratch: &[u32], report: &mut [u32], t: Attemp
 }
 
 // "Ok without a limit cause is 0, even with text left over."
-fn of_ok(tokens: &mut [u32], scratch: &[u32], report: &mut [u32], s: &[usize]) -> Outcome
-    requires state_size_in_bounds { state_size ≤ length s.now }
-    requires concluding { Concluding tokens.old scratch.now report.old (fields s.now) }
-    ensures { outcome_of result tokens.new report.new ≡ laid (length tokens.old) (length report.old) (pest_answer (Model.Ok (view tokens.old scratch.now (fields s.now)))) }
+fn of_ok(tokens: &mut [u32], scratch: &[u32], report: &mut [u32], s: &ParserState) -> Outcome
+    requires { Concluding tokens.old scratch.now report.old s.now }
+    ensures { outcome_of result tokens.new report.new ≡ laid (length tokens.old) (length report.old) (pest_answer (Model.Ok (view tokens.old scratch.now s.now))) }
 {
-    let t = tracker(s);
+    let t = s.tracker;
     let reached = t.reached;
     match reached {
         LimitReached::By(kind) => {
-            let a = attempts(s);
+            let a = s.attempts;
             of_limit(tokens, report, kind, a.furthest)
         }
-        LimitReached::No => of_tokens(tokens, report, queue(s)),
+        LimitReached::No => of_tokens(tokens, report, s.queue),
     }
 }
 
-fn of_err(tokens: &mut [u32], scratch: &[u32], report: &mut [u32], s: &[usize]) -> Outcome
-    requires state_size_in_bounds { state_size ≤ length s.now }
-    requires concluding { Concluding tokens.old scratch.now report.old (fields s.now) }
-    ensures { outcome_of result tokens.new report.new ≡ laid (length tokens.old) (length report.old) (pest_answer (Model.Err (view tokens.old scratch.now (fields s.now)))) }
+fn of_err(tokens: &mut [u32], scratch: &[u32], report: &mut [u32], s: &ParserState) -> Outcome
+    requires { Concluding tokens.old scratch.now report.old s.now }
+    ensures { outcome_of result tokens.new report.new ≡ laid (length tokens.old) (length report.old) (pest_answer (Model.Err (view tokens.old scratch.now s.now))) }
 {
-    let t = tracker(s);
-    let a = attempts(s);
+    let t = s.tracker;
+    let a = s.attempts;
     let reached = t.reached;
     match reached {
         LimitReached::By(kind) => of_limit(tokens, report, kind, a.furthest),
@@ -129,12 +126,11 @@ pub(crate) fn conclude(
     tokens: &mut [u32],
     scratch: &[u32],
     report: &mut [u32],
-    s: &[usize],
+    s: &ParserState,
     r: Ending,
 ) -> Outcome
-    requires state_size_in_bounds { state_size ≤ length s.now }
-    requires conclude_ready { ConcludeReady tokens.old scratch.now report.old (fields s.now) r }
-    ensures { outcome_of result tokens.new report.new ≡ laid (length tokens.old) (length report.old) (pest_answer (view_end tokens.old scratch.now (fields s.now) r)) }
+    requires { ConcludeReady tokens.old scratch.now report.old s.now r }
+    ensures { outcome_of result tokens.new report.new ≡ laid (length tokens.old) (length report.old) (pest_answer (view_end tokens.old scratch.now s.now r)) }
 {
     match r {
         Ending::Ok => of_ok(tokens, scratch, report, s),

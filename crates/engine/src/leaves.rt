@@ -1,15 +1,14 @@
 // Lines of kinds 1 to 5 only move the position. The evaluation takes them, and the forks whose left sides they are, here, where the
 // position alone goes from line to line: the state is read before and stored after them all.
 ghost use Rattle.std.specs.Prelude.{◌≡◌, true, false, ℕ, ◌≤◌};
-ghost use Rattle.reading.specs.Fit.{Fit};
-ghost use Rattle.reading.specs.Grammar.{kind_at, tree_at, misfit};
-ghost use Rattle.reading.specs.Nullable.{still_repeat};
+ghost use Rattle.reading.specs.Grammar.{kind_at};
 ghost use Rattle.reading.specs.Pest as Pest;
-ghost use Rattle.engine.specs.Evaluation.{setting_of, Line, evaluated};
-ghost use Rattle.engine.specs.Leaves.{Walked};
+ghost use Rattle.engine.specs.Evaluation.{Accepted, Line, evaluates};
+ghost use Rattle.engine.specs.Leaves.{FitIn, WalkedFrom};
 ghost use Rattle.engine.specs.StackMatch.{match_of};
 
 use crate::node::line_at;
+use crate::parser_state::Setting;
 use crate::spine::is_fork;
 use crate::terminals::{match_end, match_literal};
 use matching::position::{BytePosition, Matched, match_range, skip};
@@ -48,68 +47,56 @@ fn finished(line: usize, p: BytePosition, good: bool) -> Halt
 }
 
 // A line of kind 1 to 5.
-pub(crate) fn leaf<'a>(
-    nodes: &[i32],
-    literals: &'a [u8],
-    text: &'a [u8],
-    line: usize,
-    p: BytePosition,
-) -> Matched
-    requires accepted { (misfit nodes.now literals.now ≡ None) × (still_repeat nodes.now ≡ None) }
-    requires line { Line nodes.now line × (kind_at nodes.now line ≤ 5) }
-    ensures { (capacity depth : ℕ) (m : Pest.ParserState) → Fit (setting_of nodes.now literals.now text.now capacity) m → m.position ≡ p.0 → Pest.moved (match_of result) m ≡ evaluated nodes.now literals.now text.now capacity depth (tree_at nodes.now literals.now line) m }
+pub(crate) fn leaf(g: &Setting, line: usize, p: BytePosition) -> Matched
+    requires accepted { Accepted g.now }
+    requires line { Line g.now.nodes.now line × (kind_at g.now.nodes.now line ≤ 5) }
+    ensures { (depth : ℕ) (m : Pest.ParserState) → FitIn g.now m → m.position ≡ p.0 → Pest.moved (match_of result) m ≡ evaluates g.now depth line m }
 {
-    let n = line_at(nodes, line);
+    let n = line_at(g.nodes, line);
     let kind = n.kind;
     match kind {
-        1 => match_literal(literals, text, n.a, n.b, false, p),
-        2 => match_literal(literals, text, n.a, n.b, true, p),
-        3 => match_range(text, p, n.a as u32, n.b as u32),
-        4 => skip(text, p, n.a),
-        _ => match_end(text, p),
+        1 => match_literal(g.literals, g.text, n.a, n.b, false, p),
+        2 => match_literal(g.literals, g.text, n.a, n.b, true, p),
+        3 => match_range(g.text, p, n.a as u32, n.b as u32),
+        4 => skip(g.text, p, n.a),
+        _ => match_end(g.text, p),
     }
 }
 
 // A line that is no fork: a leaf is done. (`[..]` here and below: see `node`.)
-fn last<'a>(nodes: &[i32], literals: &'a [u8], text: &'a [u8], line: usize, p: BytePosition) -> Halt
-    requires accepted { (misfit nodes.now literals.now ≡ None) × (still_repeat nodes.now ≡ None) }
-    requires line { Line nodes.now line }
-    ensures { (capacity depth : ℕ) (m : Pest.ParserState) → Fit (setting_of nodes.now literals.now text.now capacity) m → m.position ≡ p.0 → Walked nodes.now literals.now text.now capacity depth line m result }
+fn last(g: &Setting, line: usize, p: BytePosition) -> Halt
+    requires accepted { Accepted g.now }
+    requires line { Line g.now.nodes.now line }
+    ensures { (depth : ℕ) (m : Pest.ParserState) → FitIn g.now m → m.position ≡ p.0 → WalkedFrom g.now depth line m result }
 {
-    let n = line_at(nodes, line);
+    let n = line_at(g.nodes, line);
     if 5 < n.kind {
         return halted(line, p);
     }
-    match leaf(&nodes[..], &literals[..], &text[..], line, p) {
+    match leaf(g, line, p) {
         Matched::At(q) => finished(line, q, true),
         Matched::Failed => finished(line, p, false),
     }
 }
 
 // From `line`, as far as left sides are leaves: by right sides where they are due.
-pub(crate) fn walk<'a>(
-    nodes: &[i32],
-    literals: &'a [u8],
-    text: &'a [u8],
-    line: usize,
-    p: BytePosition,
-) -> Halt
-    requires accepted { (misfit nodes.now literals.now ≡ None) × (still_repeat nodes.now ≡ None) }
-    requires line { Line nodes.now line }
-    ensures { (capacity depth : ℕ) (m : Pest.ParserState) → Fit (setting_of nodes.now literals.now text.now capacity) m → m.position ≡ p.0 → Walked nodes.now literals.now text.now capacity depth line m result }
+pub(crate) fn walk(g: &Setting, line: usize, p: BytePosition) -> Halt
+    requires accepted { Accepted g.now }
+    requires line { Line g.now.nodes.now line }
+    ensures { (depth : ℕ) (m : Pest.ParserState) → FitIn g.now m → m.position ≡ p.0 → WalkedFrom g.now depth line m result }
 {
     let mut at = line;
     let mut position = p;
     loop {
-        let n = line_at(nodes, at);
+        let n = line_at(g.nodes, at);
         if !is_fork(n.kind) {
-            return last(nodes, literals, text, at, position);
+            return last(g, at, position);
         }
-        let m = line_at(nodes, n.a);
+        let m = line_at(g.nodes, n.a);
         if 5 < m.kind {
             return halted(at, position);
         }
-        match leaf(&nodes[..], &literals[..], &text[..], n.a, position) {
+        match leaf(g, n.a, position) {
             Matched::At(q) => {
                 if n.kind == 7 {
                     return finished(at, q, true);

@@ -6,7 +6,6 @@ mod attempts;
 mod conclude;
 mod endings;
 mod entry;
-mod fields;
 mod leaves;
 mod node;
 mod parser_state;

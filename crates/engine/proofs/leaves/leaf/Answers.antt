@@ -20,16 +20,16 @@ pub overflow_cast-n-in-3 : goal.overflow_cast-n-in-3
 overflow_cast-n-in-3 c = let h = (scalars _ _ (accepted _ _ c.requires.accepted.0 c.requires.accepted.1) _ c.requires.line.0 _ c.line_at-n.ensures c.in-3.is).1 in search rules
 
 pub returns-in-1 : goal.returns-in-1
-returns-in-1 c = let w = (accepted _ _ c.requires.accepted.0 c.requires.accepted.1) in λ capacity depth m f x. leaf_1 _ _ _ _ _ w _ c.requires.line.0 _ c.line_at-n.ensures m _ x c.in-1.is _ (c.match_literal.ensures m)
+returns-in-1 c = let w = (accepted _ _ c.requires.accepted.0 c.requires.accepted.1) in λ depth m f x. leaf_1 _ _ _ _ _ w _ c.requires.line.0 _ c.line_at-n.ensures m _ x c.in-1.is _ (c.match_literal.ensures m)
 
 pub returns-in-2 : goal.returns-in-2
-returns-in-2 c = let w = (accepted _ _ c.requires.accepted.0 c.requires.accepted.1) in λ capacity depth m f x. leaf_2 _ _ _ _ _ w _ c.requires.line.0 _ c.line_at-n.ensures m _ x c.in-2.is f _ (c.match_literal-in-2.ensures m)
+returns-in-2 c = let w = (accepted _ _ c.requires.accepted.0 c.requires.accepted.1) in λ depth m f x. leaf_2 _ _ _ _ _ w _ c.requires.line.0 _ c.line_at-n.ensures m _ x c.in-2.is f _ (c.match_literal-in-2.ensures m)
 
 pub returns-in-3 : goal.returns-in-3
-returns-in-3 c = let w = (accepted _ _ c.requires.accepted.0 c.requires.accepted.1) in λ capacity depth m f x. leaf_3 _ _ _ _ _ w _ c.requires.line.0 _ c.line_at-n.ensures m _ x c.in-3.is _ c.match_range.ensures
+returns-in-3 c = let w = (accepted _ _ c.requires.accepted.0 c.requires.accepted.1) in λ depth m f x. leaf_3 _ _ _ _ _ w _ c.requires.line.0 _ c.line_at-n.ensures m _ x c.in-3.is _ c.match_range.ensures
 
 pub returns-in-4 : goal.returns-in-4
-returns-in-4 c = let w = (accepted _ _ c.requires.accepted.0 c.requires.accepted.1) in λ capacity depth m f x. leaf_4 _ _ _ _ _ w _ c.requires.line.0 _ c.line_at-n.ensures m _ x c.in-4.is f _ c.skip.ensures
+returns-in-4 c = let w = (accepted _ _ c.requires.accepted.0 c.requires.accepted.1) in λ depth m f x. leaf_4 _ _ _ _ _ w _ c.requires.line.0 _ c.line_at-n.ensures m _ x c.in-4.is f _ c.skip.ensures
 
 pub returns-in_default : goal.returns-in_default
-returns-in_default c = let w = (accepted _ _ c.requires.accepted.0 c.requires.accepted.1) in λ capacity depth m f x. leaf_5 _ _ _ _ _ w _ c.requires.line.0 _ c.line_at-n.ensures m _ x (fifth _ _ c.args.text.now capacity depth w _ c.requires.line.0 _ c.line_at-n.ensures c.requires.line.1 c.in_default.in_default-own.rest) c.match_end.result c.match_end.ensures
+returns-in_default c = let w = (accepted _ _ c.requires.accepted.0 c.requires.accepted.1) in λ depth m f x. leaf_5 _ _ _ _ _ w _ c.requires.line.0 _ c.line_at-n.ensures m _ x (fifth _ _ c.args.g.now.text.now c.args.g.now.room depth w _ c.requires.line.0 _ c.line_at-n.ensures c.requires.line.1 c.in_default.in_default-own.rest) c.match_end.result c.match_end.ensures
