@@ -9,7 +9,7 @@ ghost use Rattle.engine.specs.Areas.{Outside, view, view_end, positives_at, leng
 ghost use Rattle.engine.specs.Tokens.{Paired};
 ghost use Rattle.engine.specs.Rule.{starting, dropped, Recording, Tracking};
 
-use crate::attempts::{Noted, Tracked, track};
+use crate::attempts::{Noted, track};
 use crate::fields::{atomicity, attempts, lookahead, position, queue, set_attempts, set_queue};
 use crate::queueable_token::{push_end, push_start, set_partner, tag_last};
 use matching::position::{BytePosition, TokenIndex};
@@ -102,11 +102,11 @@ pub(crate) fn track_rule(
             Ending::Ok
         } else {
             match track(scratch, t, p, rule, n, negative) {
-                Tracked::Kept(u) => {
+                Some(u) => {
                     set_attempts(s, u);
                     Ending::Ok
                 }
-                Tracked::Full => Ending::Stop(Cause::AttemptsFull(line)),
+                None => Ending::Stop(Cause::AttemptsFull(line)),
             }
         }
     } else {
