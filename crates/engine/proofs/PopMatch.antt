@@ -4,7 +4,7 @@ use Rattle.std.specs.Prelude.{if◌then◌else◌}
 use mathlib.Core.Path.{◌≡◌, refl, sym, ap, ap₂, ◌∙◌, subst}
 use mathlib.Core.Bool.{Bool, true, false, not}
 use mathlib.Core.List.{List, [], ◌∷◌}
-use Rattle.std.specs.Prelude.{Option, None, Some}
+use Rattle.std.specs.Prelude.{Option, None, Some, Result}
 use Prim.Native.Nat.{ℕ, suc, ◌+◌, ◌-◌, ◌≤◌, ◌<◌}
 use native.Mathlib.Omega.{arith}
 use lib.ListN.{length, get_or, drop, length-drop}
@@ -16,8 +16,7 @@ use Rattle.matching.specs.Position.{starts_by, match_by, match_string, bytes_of}
 use Rattle.matching.proofs.Starts.{starts_short, From, from_start, from_more, from_fails, from_end}
 use Rattle.reading.specs.Pest as Pest
 use Rattle.engine.specs.declared.stack.Stack.{Stack}
-use Rattle.engine.specs.declared.stack.Popped.{Popped}
-use Rattle.engine.specs.declared.stack.Popped.TheVariants.{Got, Empty, Full}
+use Rattle.engine.specs.declared.stack.Unpopped.{Unpopped}
 use Rattle.reading.specs.declared.parser_state.Cause.TheVariants.{StackFull}
 use Rattle.reading.specs.Ending.{Ending, Ok, Err, Stop, stop_if, Span, Checkpoint}
 use Rattle.reading.specs.Reading.{debt}
@@ -125,17 +124,6 @@ module _ (text : List ℕ) (v : Pest.Stack) (line p : ℕ) (m : ParserState) whe
         go o e = rw e
 
 -- ── The bytes of one entry, compared ──
--- Whether n bytes stand at p, tested without a sum.
-pub room_past : (p n size : ℕ) → size < p → false ≡ leb (p + n) size
-room_past p n size h = sym (lt-leb (p + n) size (omega (arith, h)))
-
-pub room_is : (p n size : ℕ) → p ≤ size → leb n (size - p) ≡ leb (p + n) size
-room_is p n size h = go (leb n (size - p)) refl
-  where
-    go : (b : Bool) → leb n (size - p) ≡ b → b ≡ leb (p + n) size
-    go true e = sym (le-leb (p + n) size (omega (arith, h, leb-true n (size - p) e)))
-    go false e = sym (lt-leb (p + n) size (omega (arith, h, leb-false n (size - p) e)))
-
 -- A loop over `bytes`, at the position p of the text.
 module _ (text bytes : List ℕ) (p : ℕ) where
   module _ (room : Bool) (e : room ≡ leb (p + length bytes) (length text)) where
@@ -197,12 +185,12 @@ module _ {text a₀ : List ℕ} {s₀ : Stack} {p₀ : ℕ} {a : List ℕ} {s : 
       let z : (stack_of a s).cache ≡ [] = rw h in
       rw (ea, es, eg) (record { frame = g.frame; ends = λ line m. step_empty text (stack_of a s) line p m z ∙ g.rest line m })
 
-  module _ (hz : s.height ≡ 0 → ⊥) {a' : List ℕ} (r : Popped) (e : (take_of a' r ≡ taken (stack_of a s)) × OutsideStack a a') where
+  module _ (hz : s.height ≡ 0 → ⊥) {a' : List ℕ} (r : Result (Stack × Code.Span) Unpopped) (e : (take_of a' r ≡ taken (stack_of a s)) × OutsideStack a a') where
     some_entry : (stack_of a s).cache ≡ [] → ⊥
     some_entry z = hz (sym (pairs_length span a 0 s.height) ∙ ap length z)
 
     -- The pop found no room.
-    pub going_full : ((u : Stack) (x : Code.Span) → r ≡ Got u x → ⊥)
+    pub going_full : ((y : Stack × Code.Span) → r ≡ Result.Ok y → ⊥)
         → (line : ℕ) (m : ParserState) → Stop (StackFull line) ≡ stack_match_pop text true line (stack_of a₀ s₀).cache p₀ (set_stack (stack_of a₀ s₀) m)
     going_full n line m = step_full text (stack_of a s) line p m some_entry (go r n e.0) ∙ g.rest line m
       where
@@ -214,12 +202,12 @@ module _ {text a₀ : List ℕ} {s₀ : Stack} {p₀ : ℕ} {a : List ℕ} {s : 
             pick true v q = let z : ◌≡◌ {A = ℕ} 0 1 = cc in omega arith
             pick false v q = let z : ◌≡◌ {A = ℕ} 0 1 = cc in omega arith
 
-        go : (r : Popped) → ((u : Stack) (x : Code.Span) → r ≡ Got u x → ⊥) → take_of a' r ≡ taken (stack_of a s) → taken (stack_of a s) ≡ Take.full
-        go (Got u x) n q = absurd (n u x refl)
-        go Empty n q = absurd (not_empty (stack_of a s).cache some_entry q)
-        go Full n q = sym q
+        go : (r : Result (Stack × Code.Span) Unpopped) → ((y : Stack × Code.Span) → r ≡ Result.Ok y → ⊥) → take_of a' r ≡ taken (stack_of a s) → taken (stack_of a s) ≡ Take.full
+        go (Result.Ok y) n q = absurd (n y refl)
+        go (Result.Err Unpopped.Empty) n q = absurd (not_empty (stack_of a s).cache some_entry q)
+        go (Result.Err Unpopped.Full) n q = sym q
 
-    module _ {u : Stack} {x : Code.Span} (f : r ≡ Got u x) where
+    module _ {u : Stack} {x : Code.Span} (f : r ≡ Result.Ok (u, x)) where
       took_here : Took (stack_of a s) (stack_of a' u) (span x.start.0 x.end.0)
       took_here = took (stack_of a s) (stack_of a' u) (span x.start.0 x.end.0) (sym (rw f at e.0))
 

@@ -15,24 +15,13 @@ use Rattle.matching.specs.declared.position.BytePosition.{BytePosition}
 use Rattle.matching.specs.declared.position.Matched.{Matched}
 use Rattle.matching.specs.declared.position.Matched.TheVariants.{At, Failed}
 use Rattle.reading.specs.Pest as Pest
-use Rattle.engine.specs.declared.areas.Pair.{Pair}
 use Rattle.engine.specs.declared.stack_match.Next.{Next}
 use Rattle.reading.specs.Ending.{Span}
 use Rattle.reading.specs.Pest.{slice, all_match, as_str}
 use Rattle.engine.specs.Areas.{pairs, span}
-use Rattle.engine.specs.Pairs.{pair}
 use Rattle.engine.specs.StackMatch.{entry_at, next_of}
 use Rattle.engine.proofs.Regions.{pairs_length}
 use Rattle.engine.proofs.Matching.{match_string_same}
-
--- The bytes of an entry, from its two numbers.
-pub entry_bytes : (text a : List ℕ) (i : ℕ) (x : Pair) (w : Code.Span) (b : List ℕ) → x ≡ pair a (0 + i * 2) → (w.start.0 ≡ x.first) × (w.end.0 ≡ x.second) → b ≡ bytes_of text w.start.0 w.end.0
-    → b ≡ as_str text (entry_at a i)
-entry_bytes text a i x w b ex ew eb =
-    eb ∙ ap₂ (λ (m n : ℕ). bytes_of text m n) (ew.0 ∙ ap (λ (y : Pair). y.first) ex) (ew.1 ∙ ap (λ (y : Pair). y.second) ex)
-
-pub next_down : (low high : ℕ) (down : Bool) → down ≡ true → ◌≡◌ {A = Next} record { index = high - 1; low = low; high = high - 1 } (next_of low high down)
-next_down low high down e = rw e
 
 pub next_up : (low high : ℕ) (down : Bool) → down ≡ false → ◌≡◌ {A = Next} record { index = low; low = low + 1; high = high } (next_of low high down)
 next_up low high down e = rw e

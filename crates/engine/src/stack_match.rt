@@ -7,7 +7,7 @@ ghost use Rattle.engine.specs.StackReady.{StackReady, OutsideStack};
 ghost use Rattle.engine.specs.StackMatch.{entry_at, next_of, match_end};
 
 use crate::areas::{ENTRIES_AT, pair_at};
-use crate::stack::{Popped, Stack, pop, span_of};
+use crate::stack::{Stack, pop, span_of};
 use matching::position::{BytePosition, Matched, match_string};
 use matching::span::as_bytes;
 
@@ -76,38 +76,35 @@ pub(crate) fn match_slice(
     Matched::At(at)
 }
 
-#[derive(Clone, Copy)]
-pub enum MatchPopped {
-    Matched(Stack, BytePosition),
-    Failed(Stack),
-    Full,
-}
-
 // Whether n bytes stand at the position `at` of a text of `size` bytes.
 fn has_room(size: usize, at: usize, n: usize) -> bool
     ensures { result ≡ leb (at + n) size }
 {
-    if size < at {
-        return false;
-    }
-    n <= size - at
+    at <= size && n <= size - at
 }
 
-// "keeps popping entries until one fails to match; failing, .. popped entries are gone"
-pub(crate) fn match_pop(text: &[u8], scratch: &mut [u32], s: Stack, p: BytePosition) -> MatchPopped
+// "keeps popping entries until one fails to match; failing, .. popped entries are gone": the stack, and where a match ends.
+// None: there is no room to owe an entry.
+pub(crate) fn match_pop(
+    text: &[u8],
+    scratch: &mut [u32],
+    s: Stack,
+    p: BytePosition,
+) -> Option<(Stack, Option<BytePosition>)>
     requires { StackReady scratch.old s }
     ensures state_after { (line : ℕ) → (m : ParserState) → match_end scratch.new line m result ≡ stack_match_pop text.now true line (stack_of scratch.old s).cache p.0 (set_stack (stack_of scratch.old s) m) }
     ensures outside_stack { OutsideStack scratch.old scratch.new }
 {
     let mut t = s;
     let mut at = p.0;
+    // Kept: the loop over bytes by an index, left by the label: the scope names this form for "keeps popping entries until one fails to match".
     let matched = 'entries: loop {
         let h = t.height;
         if h == 0 {
             break true;
         }
-        let Popped::Got(u, x) = pop(scratch, t) else {
-            return MatchPopped::Full;
+        let Ok((u, x)) = pop(scratch, t) else {
+            return None;
         };
         t = u;
         let bytes = as_bytes(text, x);
@@ -125,8 +122,8 @@ pub(crate) fn match_pop(text: &[u8], scratch: &mut [u32], s: Stack, p: BytePosit
         at += n;
     };
     if matched {
-        MatchPopped::Matched(t, BytePosition(at))
+        Some((t, Some(BytePosition(at))))
     } else {
-        MatchPopped::Failed(t)
+        Some((t, None))
     }
 }

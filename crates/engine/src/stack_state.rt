@@ -8,8 +8,8 @@ ghost use Rattle.engine.specs.StackReady.{StackReady, StateReady, PushReady, Out
 ghost use Rattle.engine.specs.StackMatch.{match_of};
 
 use crate::fields::{position, set_position, set_stack, stack};
-use crate::stack::{Popped, Pushed, clear_snapshot, pop, push, restore, snapshot};
-use crate::stack_match::{MatchPopped, match_pop, match_slice};
+use crate::stack::{Unpopped, clear_snapshot, pop, push, restore, snapshot};
+use crate::stack_match::{match_pop, match_slice};
 use checks::node::{Index, is_top_down, normalize_end, normalize_index};
 use matching::position::{BytePosition, Matched, match_string};
 use matching::span::as_bytes;
@@ -77,11 +77,11 @@ pub(crate) fn stack_push_end(
     let v = stack(s);
     let p = position(s);
     match push(scratch, v, start.0 as u32, p.0 as u32) {
-        Pushed::Kept(w) => {
+        Some(w) => {
             set_stack(s, w);
             Ending::Ok
         }
-        Pushed::Full => Ending::Stop(Cause::StackFull(line)),
+        None => Ending::Stop(Cause::StackFull(line)),
     }
 }
 
@@ -95,12 +95,12 @@ pub(crate) fn stack_pop(text: &[u8], scratch: &mut [u32], s: &mut [usize], line:
     let v = stack(s);
     let p = position(s);
     match pop(scratch, v) {
-        Popped::Got(w, x) => {
+        Ok((w, x)) => {
             set_stack(s, w);
             moved(s, match_string(text, p, as_bytes(text, x)))
         }
-        Popped::Empty => Ending::Stop(Cause::EmptyStack(line)),
-        Popped::Full => Ending::Stop(Cause::StackFull(line)),
+        Err(Unpopped::Empty) => Ending::Stop(Cause::EmptyStack(line)),
+        Err(Unpopped::Full) => Ending::Stop(Cause::StackFull(line)),
     }
 }
 
@@ -148,15 +148,15 @@ pub(crate) fn stack_match_pop(
     let v = stack(s);
     let p = position(s);
     match match_pop(text, scratch, v, p) {
-        MatchPopped::Matched(w, q) => {
+        Some((w, Some(q))) => {
             set_stack(s, w);
             set_position(s, q);
             Ending::Ok
         }
-        MatchPopped::Failed(w) => {
+        Some((w, None)) => {
             set_stack(s, w);
             Ending::Err
         }
-        MatchPopped::Full => Ending::Stop(Cause::StackFull(line)),
+        None => Ending::Stop(Cause::StackFull(line)),
     }
 }
