@@ -172,18 +172,12 @@ pub record Going (text a₀ : List ℕ) (s₀ : Stack) (p₀ : ℕ) (a : List �
 pub going_start : (text a : List ℕ) (s : Stack) (p : ℕ) → StackReady a s → Going text a s p a s p
 going_start text a s p r = record { ready = r; frame = stack_refl a; rest = λ line m. refl }
 
--- Where the ways out of the loop meet: whether all matched, and scratch, the stack and the position then.
-pub record Met (text a₀ : List ℕ) (s₀ : Stack) (p₀ : ℕ) (good : Bool) (a : List ℕ) (s : Stack) (p : ℕ) : Type 0 where
-  pub frame : OutsideStack a₀ a
-  pub ends : (line : ℕ) (m : ParserState)
-      → (if good then Ok (set_position p (set_stack (stack_of a s) m)) else Err (set_stack (stack_of a s) m)) ≡ stack_match_pop text true line (stack_of a₀ s₀).cache p₀ (set_stack (stack_of a₀ s₀) m)
-
 module _ {text a₀ : List ℕ} {s₀ : Stack} {p₀ : ℕ} {a : List ℕ} {s : Stack} {p : ℕ} (g : Going text a₀ s₀ p₀ a s p) where
-  pub met_empty : {good : Bool} {a' : List ℕ} {s' : Stack} → s.height ≡ 0 → a' ≡ a → s' ≡ s → good ≡ true → Met text a₀ s₀ p₀ good a' s' p
+  -- No entry is left: all matched.
+  pub going_empty : s.height ≡ 0
+      → (line : ℕ) (m : ParserState) → Ok (set_position p (set_stack (stack_of a s) m)) ≡ stack_match_pop text true line (stack_of a₀ s₀).cache p₀ (set_stack (stack_of a₀ s₀) m)
   unfolding pairs
-  met_empty h ea es eg =
-      let z : (stack_of a s).cache ≡ [] = rw h in
-      rw (ea, es, eg) (record { frame = g.frame; ends = λ line m. step_empty text (stack_of a s) line p m z ∙ g.rest line m })
+  going_empty h line m = let z : (stack_of a s).cache ≡ [] = rw h in step_empty text (stack_of a s) line p m z ∙ g.rest line m
 
   module _ (hz : s.height ≡ 0 → ⊥) {a' : List ℕ} (r : Result (Stack × Code.Span) Unpopped) (e : (take_of a' r ≡ taken (stack_of a s)) × OutsideStack a a') where
     some_entry : (stack_of a s).cache ≡ [] → ⊥
@@ -233,19 +227,9 @@ module _ {text a₀ : List ℕ} {s₀ : Stack} {p₀ : ℕ} {a : List ℕ} {s : 
         }
 
         -- It did not: popped entries are gone.
-        pub met_failed : {good : Bool} {a'' : List ℕ} {s'' : Stack} → match_string text bytes p ≡ None → a'' ≡ a' → s'' ≡ u → good ≡ false → Met text a₀ s₀ p₀ good a'' s'' p
-        met_failed h ea es eg =
-            rw (ea, es, eg) (record {
-              frame = stack_trans g.frame e.1;
-              ends = λ line m.
-                  step_none text (stack_of a s) line p m (stack_of a' u) (span x.start.0 x.end.0) took_here
-                  (ap (λ (b : List ℕ). Pest.match_string text b p) (sym eb) ∙ match_string_same text bytes p ∙ h)
-                  ∙ g.rest line m;
-            })
-
-module _ {text a₀ : List ℕ} {s₀ : Stack} {p₀ : ℕ} {good : Bool} {a : List ℕ} {s : Stack} {p : ℕ} (w : Met text a₀ s₀ p₀ good a s p) where
-  pub met_good : good ≡ true → (line : ℕ) (m : ParserState) → Ok (set_position p (set_stack (stack_of a s) m)) ≡ stack_match_pop text true line (stack_of a₀ s₀).cache p₀ (set_stack (stack_of a₀ s₀) m)
-  met_good e line m = sym (rw e) ∙ w.ends line m
-
-  pub met_bad : good ≡ false → (line : ℕ) (m : ParserState) → Err (set_stack (stack_of a s) m) ≡ stack_match_pop text true line (stack_of a₀ s₀).cache p₀ (set_stack (stack_of a₀ s₀) m)
-  met_bad e line m = sym (rw e) ∙ w.ends line m
+        pub going_failed : match_string text bytes p ≡ None
+            → (line : ℕ) (m : ParserState) → Err (set_stack (stack_of a' u) m) ≡ stack_match_pop text true line (stack_of a₀ s₀).cache p₀ (set_stack (stack_of a₀ s₀) m)
+        going_failed h line m =
+            step_none text (stack_of a s) line p m (stack_of a' u) (span x.start.0 x.end.0) took_here
+            (ap (λ (b : List ℕ). Pest.match_string text b p) (sym eb) ∙ match_string_same text bytes p ∙ h)
+            ∙ g.rest line m

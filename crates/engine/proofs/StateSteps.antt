@@ -181,29 +181,20 @@ module _ (text : List ℕ) (line : ℕ) {a b : List ℕ} {s : ParserState} (r : 
   pop_indebted f = (λ tokens. step_full text line (view tokens a s) (rw f at took_of), e.1)
 
 -- ── stack_match_pop ──
-module _ (text : List ℕ) (line : ℕ) {a b : List ℕ} {s : ParserState} (r : StateReady a s) {v : Stack} (ev : v ≡ s.stack) {y : BytePosition} (ey : y ≡ s.position) (p : Option (Stack × Option BytePosition))
+module _ (text : List ℕ) (line : ℕ) {a b : List ℕ} {s : ParserState} (r : StateReady a s) {v : Stack} (ev : v ≡ s.stack) {y : BytePosition} (ey : y ≡ s.position) (p : Option (Stack × Matched))
     (e : ((l : ℕ) → (m : Pest.ParserState) → match_end b l m p ≡ stack_match_pop text true l (stack_of a v).cache y.0 (set_stack (stack_of a v) m)) × OutsideStack a b) where
   ends : (tokens : List ℕ) → match_end b line (view tokens a s) p ≡ stack_match_pop text true line (stack_of a s.stack).cache s.position.0 (view tokens a s)
   ends tokens =
       e.0 line (view tokens a s)
       ∙ ap₂ (λ (u : Stack) (n : BytePosition). stack_match_pop text true line (stack_of a u).cache n.0 (set_stack (stack_of a u) (view tokens a s))) ev ey
 
-  pub popped_all : (w : Stack) (q : BytePosition) → p ≡ Some (w, Some q) → {t : ParserState} → t ≡ Fields.set_stack w s → {u : ParserState} → u ≡ Fields.set_position q t
-      → ((tokens : List ℕ) → Ok (view tokens b u) ≡ stack_match_pop text true line (stack_of a s.stack).cache s.position.0 (view tokens a s)) × OutsideStack a b
-  popped_all w q f et eu = (
+  pub popped_some : (w : Stack) (q : Matched) → p ≡ Some (w, q) → {t : ParserState} → t ≡ Fields.set_stack w s
+      → (end : ParserState) (z : Code·ending.Ending) → ((tokens scratch : List ℕ) → view_end tokens scratch end z ≡ moved (match_of q) (view tokens scratch t))
+      → ((tokens : List ℕ) → view_end tokens b end z ≡ stack_match_pop text true line (stack_of a s.stack).cache s.position.0 (view tokens a s)) × OutsideStack a b
+  popped_some w q f et end z ez = (
     λ tokens.
-        ap (λ (u : ParserState). Ok (view tokens b u)) eu
-        ∙ ap (λ (m : Pest.ParserState). Ok (set_position q.0 m)) (view_stack r e.1 w (stack_of b w) refl et tokens)
-        ∙ sym (ap (match_end b line (view tokens a s)) f)
-        ∙ ends tokens,
-    e.1,
-  )
-
-  pub popped_some : (w : Stack) → p ≡ Some (w, None) → {t : ParserState} → t ≡ Fields.set_stack w s
-      → ((tokens : List ℕ) → Err (view tokens b t) ≡ stack_match_pop text true line (stack_of a s.stack).cache s.position.0 (view tokens a s)) × OutsideStack a b
-  popped_some w f et = (
-    λ tokens.
-        ap Err (view_stack r e.1 w (stack_of b w) refl et tokens)
+        ez tokens b
+        ∙ ap (moved (match_of q)) (view_stack r e.1 w (stack_of b w) refl et tokens)
         ∙ sym (ap (match_end b line (view tokens a s)) f)
         ∙ ends tokens,
     e.1,

@@ -90,7 +90,7 @@ pub(crate) fn match_pop(
     scratch: &mut [u32],
     s: Stack,
     p: BytePosition,
-) -> Option<(Stack, Option<BytePosition>)>
+) -> Option<(Stack, Matched)>
     requires { StackReady scratch.old s }
     ensures state_after { (line : ℕ) → (m : ParserState) → match_end scratch.new line m result ≡ stack_match_pop text.now true line (stack_of scratch.old s).cache p.0 (set_stack (stack_of scratch.old s) m) }
     ensures outside_stack { OutsideStack scratch.old scratch.new }
@@ -101,7 +101,7 @@ pub(crate) fn match_pop(
     let matched = 'entries: loop {
         let h = t.height;
         if h == 0 {
-            break true;
+            break Matched::At(BytePosition(at));
         }
         let Ok((u, x)) = pop(scratch, t) else {
             return None;
@@ -110,20 +110,16 @@ pub(crate) fn match_pop(
         let bytes = as_bytes(text, x);
         let n = bytes.len();
         if !has_room(text.len(), at, n) {
-            break false;
+            break Matched::Failed;
         }
         let mut i = 0;
         while i < n {
             if text[at + i] != bytes[i] {
-                break 'entries false;
+                break 'entries Matched::Failed;
             }
             i += 1;
         }
         at += n;
     };
-    if matched {
-        Some((t, Some(BytePosition(at))))
-    } else {
-        Some((t, None))
-    }
+    Some((t, matched))
 }

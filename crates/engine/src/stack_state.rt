@@ -148,14 +148,9 @@ pub(crate) fn stack_match_pop(
     let v = stack(s);
     let p = position(s);
     match match_pop(text, scratch, v, p) {
-        Some((w, Some(q))) => {
+        Some((w, m)) => {
             set_stack(s, w);
-            set_position(s, q);
-            Ending::Ok
-        }
-        Some((w, None)) => {
-            set_stack(s, w);
-            Ending::Err
+            moved(s, m)
         }
         None => Ending::Stop(Cause::StackFull(line)),
     }
