@@ -7,7 +7,7 @@ use mathlib.Core.List.{List, [], ◌∷◌, ◌++◌}
 use Prim.Native.Nat.{ℕ, ◌+◌, ◌-◌, ◌≤◌, ◌<◌, min}
 use native.Mathlib.Omega.{arith}
 use native.Mathlib.Decide.{dec_le}
-use lib.ListN.{length, take, set, length-append}
+use lib.ListN.{length, take, length-append}
 use lib.Seq.{take_all}
 use lib.Dec.{eqb, ltb}
 use borrow.Author.Tests.{eq-eqb, ne_eqb, lt-ltb, le-ltb}
@@ -20,7 +20,7 @@ use Rattle.reading.specs.Pest.{ParserState}
 use Rattle.engine.specs.Areas.{numbers, Outside, positives_at, negatives_at, lengths_at}
 use Rattle.engine.specs.Attempts.{Tried, tried, tried_of, with_tried, noted, truncated, advanced, appended, tracked, within, PushedAt, Few, Lent}
 use Rattle.engine.proofs.Regions.{outside_refl, outside_set, outside_wider, numbers_length, numbers_same, same_below, same_above}
-use Rattle.engine.proofs.AreaLaws.{outside_set_in, numbers_set, numbers_take}
+use Rattle.engine.proofs.AreaLaws.{numbers_set, numbers_take}
 
 tried_ext : {f f' : ℕ} {p p' n n' : List ℕ} → f ≡ f' → p ≡ p' → n ≡ n'
     → ◌≡◌ {A = Tried} (record { furthest = f; positive = p; negative = n }) (record { furthest = f'; positive = p'; negative = n' })

@@ -9,7 +9,7 @@ use lib.Seq.{take-suc}
 use Rattle.reading.specs.Ending.{Span}
 use Rattle.engine.specs.Areas.{pairs, span, Outside}
 use Rattle.std.specs.List.{CopiedTo, SameBelow, SameFrom}
-use Rattle.engine.specs.Pairs.{pair, put, copied, refilled}
+use Rattle.engine.specs.Pairs.{copied, refilled}
 use Rattle.engine.proofs.Regions.{outside_refl, outside_trans, outside_wider, outside_put, pairs_put, pairs_length, pairs_getD, pairs_same}
 
 -- ── The loop's invariant ──

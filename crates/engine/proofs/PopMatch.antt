@@ -10,7 +10,7 @@ use native.Mathlib.Omega.{arith}
 use lib.ListN.{length, get_or, drop, length-drop}
 use lib.Seq.{get_or-drop}
 use lib.Dec.{eqb, ltb, leb}
-use borrow.Author.Tests.{ltb-false, leb-true, leb-false, not-true, not-false, le-ltb, eq-eqb, ne_eqb, le-leb, lt-leb}
+use borrow.Author.Tests.{ltb-false, leb-true, leb-false, not-true, not-false, le-ltb, eq-eqb, ne_eqb, le-leb}
 use Rattle.matching.specs.declared.span.Span as Code
 use Rattle.matching.specs.Position.{starts_by, match_by, match_string, bytes_of}
 use Rattle.matching.proofs.Starts.{starts_short, From, from_start, from_more, from_fails, from_end}

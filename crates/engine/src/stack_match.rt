@@ -4,7 +4,7 @@ ghost use Rattle.matching.specs.Answers.{matched};
 ghost use Rattle.reading.specs.Pest.{ParserState, set_stack, as_str, slice, all_match, stack_match_pop};
 ghost use Rattle.engine.specs.Areas.{stack_of};
 ghost use Rattle.engine.specs.StackReady.{StackReady, OutsideStack};
-ghost use Rattle.engine.specs.StackMatch.{entry_at, next_of, match_end};
+ghost use Rattle.engine.specs.StackMatch.{entry_at, index_at, match_end};
 
 use crate::areas::{ENTRIES_AT, pair_at};
 use crate::stack::{Stack, pop, span_of};
@@ -20,31 +20,12 @@ pub(crate) fn entry<'a>(text: &'a [u8], scratch: &[u32], index: usize) -> &'a [u
     as_bytes(text, span_of(x))
 }
 
-// The entry that comes first in a slice, and the slice without it.
-#[derive(Clone, Copy)]
-pub struct Next {
-    pub index: usize,
-    pub low: usize,
-    pub high: usize,
-}
-
-fn next_entry(low: usize, high: usize, down: bool) -> Next
-    requires { low < high }
-    ensures { result ≡ next_of low high down }
+// The index of the entry that comes at turn k of a slice, where k counts up from `start`.
+fn index_at(start: usize, end: usize, k: usize, down: bool) -> usize
+    requires { (start ≤ k) × (k < end) }
+    ensures { result ≡ index_at start end k down }
 {
-    if down {
-        Next {
-            index: high - 1,
-            low: low,
-            high: high - 1,
-        }
-    } else {
-        Next {
-            index: low,
-            low: low + 1,
-            high: high,
-        }
-    }
+    if down { end - 1 - (k - start) } else { k }
 }
 
 // Matches the entries from `start` to before `end`, in either direction: all, or it fails.
@@ -61,17 +42,12 @@ pub(crate) fn match_slice(
     ensures { result ≡ matched (all_match text.now (slice start end down (stack_of scratch.now s).cache) pos.0) }
 {
     let mut at = pos;
-    let mut low = start;
-    let mut high = end;
-    while low < high {
-        let next = next_entry(low, high, down);
-        let i = next.index;
+    for k in start..end {
+        let i = index_at(start, end, k, down);
         let Matched::At(q) = match_string(text, at, entry(text, scratch, i)) else {
             return Matched::Failed;
         };
         at = q;
-        low = next.low;
-        high = next.high;
     }
     Matched::At(at)
 }

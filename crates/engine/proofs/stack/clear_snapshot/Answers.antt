@@ -1,6 +1,6 @@
 -- What Sound says of the two innermost checkpoints (`top_is`, `outer_top`) bounds every difference; one law for each way out.
 use mathlib.Core.Path.{◌≡◌}
-use Prim.Native.Nat.{◌-◌, min}
+use Prim.Native.Nat.{min}
 use native.Mathlib.Omega.{arith}
 use Rattle.std.proofs.lemmas.Grind.{common_steps}
 use Rattle.engine.proofs.Moves.{drained_by}
