@@ -7,9 +7,7 @@ ghost use Rattle.engine.specs.Pairs.{refilled};
 ghost use Rattle.engine.specs.Bounded.{pushed, taken, take_of};
 ghost use Rattle.engine.specs.StackReady.{StackReady, OutsideStack, most_checkpoints};
 
-use crate::areas::{
-    ENTRIES_AT, LENGTHS_AT, MOST_DEBT, MOST_ENTRIES, POPPED_AT, pair_at, put_pair,
-};
+use crate::areas::{ENTRIES_AT, LENGTHS_AT, MOST_DEBT, MOST_ENTRIES, POPPED_AT, pair_at, put_pair};
 use matching::position::BytePosition;
 use matching::span::Span;
 
