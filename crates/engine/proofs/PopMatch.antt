@@ -4,20 +4,19 @@ use Rattle.std.specs.Prelude.{if◌then◌else◌}
 use mathlib.Core.Path.{◌≡◌, refl, sym, ap, ap₂, ◌∙◌, subst}
 use mathlib.Core.Bool.{Bool, true, false, not}
 use mathlib.Core.List.{List, [], ◌∷◌}
-use Rattle.std.specs.Prelude.{Option, None, Some}
+use Rattle.std.specs.Prelude.{Option, None, Some, Result}
 use Prim.Native.Nat.{ℕ, suc, ◌+◌, ◌-◌, ◌≤◌, ◌<◌}
 use native.Mathlib.Omega.{arith}
 use lib.ListN.{length, get_or, drop, length-drop}
 use lib.Seq.{get_or-drop}
 use lib.Dec.{eqb, ltb, leb}
-use borrow.Author.Tests.{ltb-false, leb-true, leb-false, not-true, not-false, le-ltb, eq-eqb, ne_eqb, le-leb, lt-leb}
+use borrow.Author.Tests.{ltb-false, leb-true, leb-false, not-true, not-false, le-ltb, eq-eqb, ne_eqb, le-leb}
 use Rattle.matching.specs.declared.span.Span as Code
 use Rattle.matching.specs.Position.{starts_by, match_by, match_string, bytes_of}
 use Rattle.matching.proofs.Starts.{starts_short, From, from_start, from_more, from_fails, from_end}
 use Rattle.reading.specs.Pest as Pest
 use Rattle.engine.specs.declared.stack.Stack.{Stack}
-use Rattle.engine.specs.declared.stack.Popped.{Popped}
-use Rattle.engine.specs.declared.stack.Popped.TheVariants.{Got, Empty, Full}
+use Rattle.engine.specs.declared.stack.Unpopped.{Unpopped}
 use Rattle.reading.specs.declared.parser_state.Cause.TheVariants.{StackFull}
 use Rattle.reading.specs.Ending.{Ending, Ok, Err, Stop, stop_if, Span, Checkpoint}
 use Rattle.reading.specs.Reading.{debt}
@@ -125,17 +124,6 @@ module _ (text : List ℕ) (v : Pest.Stack) (line p : ℕ) (m : ParserState) whe
         go o e = rw e
 
 -- ── The bytes of one entry, compared ──
--- Whether n bytes stand at p, tested without a sum.
-pub room_past : (p n size : ℕ) → size < p → false ≡ leb (p + n) size
-room_past p n size h = sym (lt-leb (p + n) size (omega (arith, h)))
-
-pub room_is : (p n size : ℕ) → p ≤ size → leb n (size - p) ≡ leb (p + n) size
-room_is p n size h = go (leb n (size - p)) refl
-  where
-    go : (b : Bool) → leb n (size - p) ≡ b → b ≡ leb (p + n) size
-    go true e = sym (le-leb (p + n) size (omega (arith, h, leb-true n (size - p) e)))
-    go false e = sym (lt-leb (p + n) size (omega (arith, h, leb-false n (size - p) e)))
-
 -- A loop over `bytes`, at the position p of the text.
 module _ (text bytes : List ℕ) (p : ℕ) where
   module _ (room : Bool) (e : room ≡ leb (p + length bytes) (length text)) where
@@ -184,25 +172,19 @@ pub record Going (text a₀ : List ℕ) (s₀ : Stack) (p₀ : ℕ) (a : List �
 pub going_start : (text a : List ℕ) (s : Stack) (p : ℕ) → StackReady a s → Going text a s p a s p
 going_start text a s p r = record { ready = r; frame = stack_refl a; rest = λ line m. refl }
 
--- Where the ways out of the loop meet: whether all matched, and scratch, the stack and the position then.
-pub record Met (text a₀ : List ℕ) (s₀ : Stack) (p₀ : ℕ) (good : Bool) (a : List ℕ) (s : Stack) (p : ℕ) : Type 0 where
-  pub frame : OutsideStack a₀ a
-  pub ends : (line : ℕ) (m : ParserState)
-      → (if good then Ok (set_position p (set_stack (stack_of a s) m)) else Err (set_stack (stack_of a s) m)) ≡ stack_match_pop text true line (stack_of a₀ s₀).cache p₀ (set_stack (stack_of a₀ s₀) m)
-
 module _ {text a₀ : List ℕ} {s₀ : Stack} {p₀ : ℕ} {a : List ℕ} {s : Stack} {p : ℕ} (g : Going text a₀ s₀ p₀ a s p) where
-  pub met_empty : {good : Bool} {a' : List ℕ} {s' : Stack} → s.height ≡ 0 → a' ≡ a → s' ≡ s → good ≡ true → Met text a₀ s₀ p₀ good a' s' p
+  -- No entry is left: all matched.
+  pub going_empty : s.height ≡ 0
+      → (line : ℕ) (m : ParserState) → Ok (set_position p (set_stack (stack_of a s) m)) ≡ stack_match_pop text true line (stack_of a₀ s₀).cache p₀ (set_stack (stack_of a₀ s₀) m)
   unfolding pairs
-  met_empty h ea es eg =
-      let z : (stack_of a s).cache ≡ [] = rw h in
-      rw (ea, es, eg) (record { frame = g.frame; ends = λ line m. step_empty text (stack_of a s) line p m z ∙ g.rest line m })
+  going_empty h line m = let z : (stack_of a s).cache ≡ [] = rw h in step_empty text (stack_of a s) line p m z ∙ g.rest line m
 
-  module _ (hz : s.height ≡ 0 → ⊥) {a' : List ℕ} (r : Popped) (e : (take_of a' r ≡ taken (stack_of a s)) × OutsideStack a a') where
+  module _ (hz : s.height ≡ 0 → ⊥) {a' : List ℕ} (r : Result (Stack × Code.Span) Unpopped) (e : (take_of a' r ≡ taken (stack_of a s)) × OutsideStack a a') where
     some_entry : (stack_of a s).cache ≡ [] → ⊥
     some_entry z = hz (sym (pairs_length span a 0 s.height) ∙ ap length z)
 
     -- The pop found no room.
-    pub going_full : ((u : Stack) (x : Code.Span) → r ≡ Got u x → ⊥)
+    pub going_full : ((y : Stack × Code.Span) → r ≡ Result.Ok y → ⊥)
         → (line : ℕ) (m : ParserState) → Stop (StackFull line) ≡ stack_match_pop text true line (stack_of a₀ s₀).cache p₀ (set_stack (stack_of a₀ s₀) m)
     going_full n line m = step_full text (stack_of a s) line p m some_entry (go r n e.0) ∙ g.rest line m
       where
@@ -214,12 +196,12 @@ module _ {text a₀ : List ℕ} {s₀ : Stack} {p₀ : ℕ} {a : List ℕ} {s : 
             pick true v q = let z : ◌≡◌ {A = ℕ} 0 1 = cc in omega arith
             pick false v q = let z : ◌≡◌ {A = ℕ} 0 1 = cc in omega arith
 
-        go : (r : Popped) → ((u : Stack) (x : Code.Span) → r ≡ Got u x → ⊥) → take_of a' r ≡ taken (stack_of a s) → taken (stack_of a s) ≡ Take.full
-        go (Got u x) n q = absurd (n u x refl)
-        go Empty n q = absurd (not_empty (stack_of a s).cache some_entry q)
-        go Full n q = sym q
+        go : (r : Result (Stack × Code.Span) Unpopped) → ((y : Stack × Code.Span) → r ≡ Result.Ok y → ⊥) → take_of a' r ≡ taken (stack_of a s) → taken (stack_of a s) ≡ Take.full
+        go (Result.Ok y) n q = absurd (n y refl)
+        go (Result.Err Unpopped.Empty) n q = absurd (not_empty (stack_of a s).cache some_entry q)
+        go (Result.Err Unpopped.Full) n q = sym q
 
-    module _ {u : Stack} {x : Code.Span} (f : r ≡ Got u x) where
+    module _ {u : Stack} {x : Code.Span} (f : r ≡ Result.Ok (u, x)) where
       took_here : Took (stack_of a s) (stack_of a' u) (span x.start.0 x.end.0)
       took_here = took (stack_of a s) (stack_of a' u) (span x.start.0 x.end.0) (sym (rw f at e.0))
 
@@ -245,19 +227,9 @@ module _ {text a₀ : List ℕ} {s₀ : Stack} {p₀ : ℕ} {a : List ℕ} {s : 
         }
 
         -- It did not: popped entries are gone.
-        pub met_failed : {good : Bool} {a'' : List ℕ} {s'' : Stack} → match_string text bytes p ≡ None → a'' ≡ a' → s'' ≡ u → good ≡ false → Met text a₀ s₀ p₀ good a'' s'' p
-        met_failed h ea es eg =
-            rw (ea, es, eg) (record {
-              frame = stack_trans g.frame e.1;
-              ends = λ line m.
-                  step_none text (stack_of a s) line p m (stack_of a' u) (span x.start.0 x.end.0) took_here
-                  (ap (λ (b : List ℕ). Pest.match_string text b p) (sym eb) ∙ match_string_same text bytes p ∙ h)
-                  ∙ g.rest line m;
-            })
-
-module _ {text a₀ : List ℕ} {s₀ : Stack} {p₀ : ℕ} {good : Bool} {a : List ℕ} {s : Stack} {p : ℕ} (w : Met text a₀ s₀ p₀ good a s p) where
-  pub met_good : good ≡ true → (line : ℕ) (m : ParserState) → Ok (set_position p (set_stack (stack_of a s) m)) ≡ stack_match_pop text true line (stack_of a₀ s₀).cache p₀ (set_stack (stack_of a₀ s₀) m)
-  met_good e line m = sym (rw e) ∙ w.ends line m
-
-  pub met_bad : good ≡ false → (line : ℕ) (m : ParserState) → Err (set_stack (stack_of a s) m) ≡ stack_match_pop text true line (stack_of a₀ s₀).cache p₀ (set_stack (stack_of a₀ s₀) m)
-  met_bad e line m = sym (rw e) ∙ w.ends line m
+        pub going_failed : match_string text bytes p ≡ None
+            → (line : ℕ) (m : ParserState) → Err (set_stack (stack_of a' u) m) ≡ stack_match_pop text true line (stack_of a₀ s₀).cache p₀ (set_stack (stack_of a₀ s₀) m)
+        going_failed h line m =
+            step_none text (stack_of a s) line p m (stack_of a' u) (span x.start.0 x.end.0) took_here
+            (ap (λ (b : List ℕ). Pest.match_string text b p) (sym eb) ∙ match_string_same text bytes p ∙ h)
+            ∙ g.rest line m

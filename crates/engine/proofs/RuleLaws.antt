@@ -1,6 +1,6 @@
 -- The leaves of `rule`: each law is one arm of the code, over pest's own state. The last part puts the leaves together again: `rule` is
 -- its start, its body, and its end.
-use Rattle.std.specs.Prelude.{if◌then◌else◌}
+use Rattle.std.specs.Prelude.{Option, None, Some, if◌then◌else◌}
 use mathlib.Core.Path.{◌≡◌, refl, sym, ap, ◌∙◌}
 use mathlib.Core.Bool.{Bool, true, false, ◌&&◌, ◌||◌, not}
 use mathlib.Core.List.{List, [], ◌∷◌, ◌++◌}
@@ -25,7 +25,7 @@ use Rattle.reading.specs.Reading.{Setting, most_attempts}
 use Rattle.reading.specs.Pest as Pest
 use Rattle.reading.specs.Pest.{ParserState, QueueableToken, Start, End, produces, with_end, set_queue, push_token, tracking, close_rule, tag_last, tag_node}
 use Rattle.engine.specs.Areas.{Outside, view, queue_of, stack_of, span, checkpoint, positives_at, lengths_at, entries_at, popped_at}
-use Rattle.engine.specs.Attempts.{Tried, tried, tried_of, with_tried, noted, tracked, Track, kept, full, within, Lent}
+use Rattle.engine.specs.Attempts.{Tried, tried, tried_of, with_tried, noted, tracked, within, Lent}
 use Rattle.engine.specs.Tokens.{Patched, Paired, Pushed, Tagged}
 use Rattle.engine.specs.Rule.{starting, dropped, Recording}
 use Rattle.engine.proofs.Regions.{outside_refl, outside_wider, same_below, same_above, pairs_same}
@@ -176,9 +176,9 @@ pub kept_view : (tokens a b : List ℕ) (s : DeclaredState.ParserState) (u : Att
 kept_view tokens a b s u h p o = ap (λ (v : Pest.Stack). Pest.set_stack v (with_tried (tried b u) (view tokens a s))) (stack_kept a b s.stack h p o)
 
 -- The state with the attempts that were kept, or a stop.
-abbrev pub told : (line : ℕ) → Track → ParserState → Ending ParserState
-told line (kept t) m = Ok (with_tried t m)
-told line full m = Stop (AttemptsFull line)
+abbrev pub told : (line : ℕ) → Option Tried → ParserState → Ending ParserState
+told line (Some t) m = Ok (with_tried t m)
+told line None m = Stop (AttemptsFull line)
 
 -- `tracking`, once it is due
 abbrev now_tracked : (line : ℕ) → ParserState → Ending ParserState
@@ -187,7 +187,7 @@ now_tracked line n = stop_if (ltb most_attempts (length n.pos_attempts) || ltb m
 told_within : (line : ℕ) (t : Tried) (m : ParserState) → told line (within t) m ≡ now_tracked line (with_tried t m)
 told_within line t m = go (ltb most_attempts (length t.positive) || ltb most_attempts (length t.negative))
   where
-    go : (b : Bool) → told line (if b then full else kept t) m ≡ stop_if b (AttemptsFull line) (λ _. Ok (with_tried t m))
+    go : (b : Bool) → told line (if b then None else Some t) m ≡ stop_if b (AttemptsFull line) (λ _. Ok (with_tried t m))
     go true = refl
     go false = refl
 
@@ -202,10 +202,10 @@ module _ (g : Setting) (due : Bool) (line r p : ℕ) (n : Noted) (m : ParserStat
   track_atomic d f = when_false (due && not (is_atomic m.atomicity)) (Ok m) (now_tracked line after) (rw (d, f))
 
   -- w is what tracking gave under the lookahead that `neg` tells of, and v is that answer seen again.
-  pub track_told : (v w : Track) (neg : Bool) → v ≡ w → w ≡ within (tracked r p n neg (tried_of m)) → neg ≡ is_negative m.lookahead → due ≡ true → is_atomic m.atomicity ≡ false
+  pub track_told : (v w : Option Tried) (neg : Bool) → v ≡ w → w ≡ within (tracked r p n neg (tried_of m)) → neg ≡ is_negative m.lookahead → due ≡ true → is_atomic m.atomicity ≡ false
       → told line v m ≡ tracking g true due line r p n.positives n.negatives n.total m (λ t. Ok t)
   track_told v w neg q e h d f =
-      ap (λ (x : Track). told line x m) (q ∙ e ∙ ap (λ (b : Bool). within (tracked r p n b (tried_of m))) h)
+      ap (λ (x : Option Tried). told line x m) (q ∙ e ∙ ap (λ (b : Bool). within (tracked r p n b (tried_of m))) h)
       ∙ told_within line (tracked r p n (is_negative m.lookahead) (tried_of m)) m
       ∙ ap (now_tracked line) (sym (track_is r p n m f))
       ∙ when_true (due && not (is_atomic m.atomicity)) (Ok m) (now_tracked line after) (rw (d, f))
@@ -215,7 +215,7 @@ module _ (a : List ℕ) (t u : Attempts) (same : t ≡ u) where
   pub lent_read : Lent a u → Lent a t
   lent_read h = rw same h
 
-  pub track_read : (r p : ℕ) (n : Noted) (neg : Bool) (w : Track) → w ≡ within (tracked r p n neg (tried a t)) → w ≡ within (tracked r p n neg (tried a u))
+  pub track_read : (r p : ℕ) (n : Noted) (neg : Bool) (w : Option Tried) → w ≡ within (tracked r p n neg (tried a t)) → w ≡ within (tracked r p n neg (tried a u))
   track_read r p n neg w h = rw same at h
 
 -- ── `rule` is its leaves ──

@@ -1,6 +1,7 @@
 -- A state whose stack was changed in scratch: the rest of what the state stands for is as it was, so that each combinator over the stack
 -- comes down to what the stack's function answered.
 use Rattle.std.specs.Prelude.{if◌then◌else◌}
+use Rattle.std.specs.Prelude.{option_map, Result}
 use mathlib.Core.Path.{◌≡◌, refl, sym, ap, ap₂, ◌∙◌}
 use mathlib.Core.Bool.{Bool, true, false, cond, ◌||◌}
 use mathlib.Core.List.{List, [], ◌∷◌}
@@ -19,10 +20,8 @@ use Rattle.matching.specs.declared.position.Matched.{Matched}
 use Rattle.reading.specs.declared.parser_state.Ending as Code·ending
 use Rattle.reading.specs.Pest as Pest
 use Rattle.engine.specs.declared.stack.Stack.{Stack}
-use Rattle.engine.specs.declared.stack.Pushed.{Pushed}
-use Rattle.engine.specs.declared.stack.Popped.{Popped}
+use Rattle.engine.specs.declared.stack.Unpopped.{Unpopped}
 use Rattle.checks.specs.declared.node.Index.{Index}
-use Rattle.engine.specs.declared.stack_match.MatchPopped.{MatchPopped}
 use Rattle.engine.specs.Fields as Fields
 use Rattle.engine.specs.declared.parser_state.ParserState.{ParserState}
 use Rattle.reading.specs.declared.parser_state.Cause.TheVariants.{EmptyStack, StackFull}
@@ -30,7 +29,7 @@ use Rattle.reading.specs.Ending.{Ending, Ok, Err, Stop, stop_if, Span}
 use Rattle.reading.specs.Reading.{debt}
 use Rattle.reading.specs.Pest.{set_position, set_stack, push, pop, as_str, moved, stack_pop, stack_match_pop, stack_match_peek_slice, normalize_index, normalize_end, slice, all_match}
 use Rattle.engine.specs.Areas.{span, stack_of, view, view_end}
-use Rattle.engine.specs.Bounded.{Push, kept, Take, got, pushed, taken, taken_from, push_of, take_of}
+use Rattle.engine.specs.Bounded.{Take, got, pushed, taken, taken_from, take_of}
 use Rattle.reading.specs.Sound.{Sound}
 use Rattle.engine.specs.StackReady.{StackReady, StateReady, OutsideStack}
 use Rattle.engine.specs.StackMatch.{match_of, match_end}
@@ -96,26 +95,26 @@ matched_back (Some p) = refl
 
 -- ── stack_push ──
 module _ {a b : List ℕ} {s : ParserState} (r : StateReady a s) {v : Stack} (ev : v ≡ s.stack) {y : BytePosition} (ey : y ≡ s.position)
-    (x : ℕ) (p : Pushed) (e : (push_of b p ≡ pushed (span x y.0) (stack_of a v)) × OutsideStack a b) (line : ℕ) where
+    (x : ℕ) (p : Option Stack) (e : (option_map (stack_of b) p ≡ pushed (span x y.0) (stack_of a v)) × OutsideStack a b) (line : ℕ) where
   abbrev after : Pest.Stack
   after = push (span x s.position.0) (stack_of a s.stack)
 
-  said : push_of b p ≡ pushed (span x s.position.0) (stack_of a s.stack)
+  said : option_map (stack_of b) p ≡ pushed (span x s.position.0) (stack_of a s.stack)
   said = e.0 ∙ ap₂ (λ (u : Stack) (n : BytePosition). pushed (span x n.0) (stack_of a u)) ev ey
 
-  pub push_kept : (w : Stack) → p ≡ Pushed.Kept w → {t : ParserState} → t ≡ Fields.set_stack w s
+  pub push_kept : (w : Stack) → p ≡ Some w → {t : ParserState} → t ≡ Fields.set_stack w s
       → ((tokens : List ℕ) → Ok (view tokens b t) ≡ stop_if (leb 128 (length (stack_of a s.stack).cache)) (StackFull line) (λ _. Ok (set_stack after (view tokens a s)))) × OutsideStack a b
   push_kept w f {t} et = (λ tokens. go tokens (leb 128 (length (stack_of a s.stack).cache)) (rw f at said), e.1)
     where
-      go : (tokens : List ℕ) (b₀ : Bool) → kept (stack_of b w) ≡ (if b₀ then Push.full else kept after) → Ok (view tokens b t) ≡ stop_if b₀ (StackFull line) (λ _. Ok (set_stack after (view tokens a s)))
+      go : (tokens : List ℕ) (b₀ : Bool) → Some (stack_of b w) ≡ (if b₀ then None else Some after) → Ok (view tokens b t) ≡ stop_if b₀ (StackFull line) (λ _. Ok (set_stack after (view tokens a s)))
       go tokens true q = let z : ◌≡◌ {A = ℕ} 0 1 = cc in absurd (omega arith)
       go tokens false q = let u : stack_of b w ≡ after = cc in ap Ok (view_stack r e.1 w after u et tokens)
 
-  pub push_stopped : p ≡ Pushed.Full
+  pub push_stopped : p ≡ None
       → ((tokens : List ℕ) → Stop (StackFull line) ≡ stop_if (leb 128 (length (stack_of a s.stack).cache)) (StackFull line) (λ _. Ok (set_stack after (view tokens a s)))) × OutsideStack a b
   push_stopped f = (λ tokens. go tokens (leb 128 (length (stack_of a s.stack).cache)) (rw f at said), e.1)
     where
-      go : (tokens : List ℕ) (b₀ : Bool) → Push.full ≡ (if b₀ then Push.full else kept after) → Stop (StackFull line) ≡ stop_if b₀ (StackFull line) (λ _. Ok (set_stack after (view tokens a s)))
+      go : (tokens : List ℕ) (b₀ : Bool) → ◌≡◌ {A = Option Pest.Stack} None (if b₀ then None else Some after) → Stop (StackFull line) ≡ stop_if b₀ (StackFull line) (λ _. Ok (set_stack after (view tokens a s)))
       go tokens true q = refl
       go tokens false q = let z : ◌≡◌ {A = ℕ} 0 1 = cc in absurd (omega arith)
 
@@ -157,11 +156,11 @@ module _ (text : List ℕ) (line : ℕ) (m : Pest.ParserState) where
           (λ _. moved (Pest.match_string text (as_str text y) m.position) (set_stack (pop y rest m.stack) m)) e
 
 module _ (text : List ℕ) (line : ℕ) {a b : List ℕ} {s : ParserState} (r : StateReady a s) {v : Stack} (ev : v ≡ s.stack)
-    (p : Popped) (e : (take_of b p ≡ taken (stack_of a v)) × OutsideStack a b) where
+    (p : Result (Stack × Code.Span) Unpopped) (e : (take_of b p ≡ taken (stack_of a v)) × OutsideStack a b) where
   took_of : take_of b p ≡ taken (stack_of a s.stack)
   took_of = e.0 ∙ ap (λ (u : Stack). taken (stack_of a u)) ev
 
-  pub pop_moved : (w : Stack) (x : Code.Span) → p ≡ Popped.Got w x → {t : ParserState} → t ≡ Fields.set_stack w s → (bytes : List ℕ) → bytes ≡ bytes_of text x.start.0 x.end.0
+  pub pop_moved : (w : Stack) (x : Code.Span) → p ≡ Result.Ok (w, x) → {t : ParserState} → t ≡ Fields.set_stack w s → (bytes : List ℕ) → bytes ≡ bytes_of text x.start.0 x.end.0
       → {y : BytePosition} → y ≡ s.position → (q : Matched) → q ≡ matched (match_string text bytes y.0)
       → (end : ParserState) (z : Code·ending.Ending) → ((tokens scratch : List ℕ) → view_end tokens scratch end z ≡ moved (match_of q) (view tokens scratch t))
       → ((tokens : List ℕ) → view_end tokens b end z ≡ stack_pop text true line (stack_of a s.stack).cache (view tokens a s)) × OutsideStack a b
@@ -175,42 +174,33 @@ module _ (text : List ℕ) (line : ℕ) {a b : List ℕ} {s : ParserState} (r : 
     e.1,
   )
 
-  pub pop_stopped : p ≡ Popped.Empty → ((tokens : List ℕ) → Stop (EmptyStack line) ≡ stack_pop text true line (stack_of a s.stack).cache (view tokens a s)) × OutsideStack a b
+  pub pop_stopped : p ≡ Result.Err Unpopped.Empty → ((tokens : List ℕ) → Stop (EmptyStack line) ≡ stack_pop text true line (stack_of a s.stack).cache (view tokens a s)) × OutsideStack a b
   pop_stopped f = (λ tokens. step_empty text line (view tokens a s) (rw f at took_of), e.1)
 
-  pub pop_indebted : p ≡ Popped.Full → ((tokens : List ℕ) → Stop (StackFull line) ≡ stack_pop text true line (stack_of a s.stack).cache (view tokens a s)) × OutsideStack a b
+  pub pop_indebted : p ≡ Result.Err Unpopped.Full → ((tokens : List ℕ) → Stop (StackFull line) ≡ stack_pop text true line (stack_of a s.stack).cache (view tokens a s)) × OutsideStack a b
   pop_indebted f = (λ tokens. step_full text line (view tokens a s) (rw f at took_of), e.1)
 
 -- ── stack_match_pop ──
-module _ (text : List ℕ) (line : ℕ) {a b : List ℕ} {s : ParserState} (r : StateReady a s) {v : Stack} (ev : v ≡ s.stack) {y : BytePosition} (ey : y ≡ s.position) (p : MatchPopped)
+module _ (text : List ℕ) (line : ℕ) {a b : List ℕ} {s : ParserState} (r : StateReady a s) {v : Stack} (ev : v ≡ s.stack) {y : BytePosition} (ey : y ≡ s.position) (p : Option (Stack × Matched))
     (e : ((l : ℕ) → (m : Pest.ParserState) → match_end b l m p ≡ stack_match_pop text true l (stack_of a v).cache y.0 (set_stack (stack_of a v) m)) × OutsideStack a b) where
   ends : (tokens : List ℕ) → match_end b line (view tokens a s) p ≡ stack_match_pop text true line (stack_of a s.stack).cache s.position.0 (view tokens a s)
   ends tokens =
       e.0 line (view tokens a s)
       ∙ ap₂ (λ (u : Stack) (n : BytePosition). stack_match_pop text true line (stack_of a u).cache n.0 (set_stack (stack_of a u) (view tokens a s))) ev ey
 
-  pub popped_all : (w : Stack) (q : BytePosition) → p ≡ MatchPopped.Matched w q → {t : ParserState} → t ≡ Fields.set_stack w s → {u : ParserState} → u ≡ Fields.set_position q t
-      → ((tokens : List ℕ) → Ok (view tokens b u) ≡ stack_match_pop text true line (stack_of a s.stack).cache s.position.0 (view tokens a s)) × OutsideStack a b
-  popped_all w q f et eu = (
+  pub popped_some : (w : Stack) (q : Matched) → p ≡ Some (w, q) → {t : ParserState} → t ≡ Fields.set_stack w s
+      → (end : ParserState) (z : Code·ending.Ending) → ((tokens scratch : List ℕ) → view_end tokens scratch end z ≡ moved (match_of q) (view tokens scratch t))
+      → ((tokens : List ℕ) → view_end tokens b end z ≡ stack_match_pop text true line (stack_of a s.stack).cache s.position.0 (view tokens a s)) × OutsideStack a b
+  popped_some w q f et end z ez = (
     λ tokens.
-        ap (λ (u : ParserState). Ok (view tokens b u)) eu
-        ∙ ap (λ (m : Pest.ParserState). Ok (set_position q.0 m)) (view_stack r e.1 w (stack_of b w) refl et tokens)
+        ez tokens b
+        ∙ ap (moved (match_of q)) (view_stack r e.1 w (stack_of b w) refl et tokens)
         ∙ sym (ap (match_end b line (view tokens a s)) f)
         ∙ ends tokens,
     e.1,
   )
 
-  pub popped_some : (w : Stack) → p ≡ MatchPopped.Failed w → {t : ParserState} → t ≡ Fields.set_stack w s
-      → ((tokens : List ℕ) → Err (view tokens b t) ≡ stack_match_pop text true line (stack_of a s.stack).cache s.position.0 (view tokens a s)) × OutsideStack a b
-  popped_some w f et = (
-    λ tokens.
-        ap Err (view_stack r e.1 w (stack_of b w) refl et tokens)
-        ∙ sym (ap (match_end b line (view tokens a s)) f)
-        ∙ ends tokens,
-    e.1,
-  )
-
-  pub popped_indebted : p ≡ MatchPopped.Full
+  pub popped_indebted : p ≡ None
       → ((tokens : List ℕ) → Stop (StackFull line) ≡ stack_match_pop text true line (stack_of a s.stack).cache s.position.0 (view tokens a s)) × OutsideStack a b
   popped_indebted f = (λ tokens. sym (ap (match_end b line (view tokens a s)) f) ∙ ends tokens, e.1)
 

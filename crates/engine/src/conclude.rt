@@ -12,7 +12,7 @@ ghost use Rattle.engine.specs.Conclude.{outcome_of, Concluding, ConcludeReady};
 
 use crate::attempts::{Attempts, write_report};
 use crate::parser_state::ParserState;
-use crate::queueable_token::{clear, write_tokens};
+use crate::queueable_token::write_tokens;
 use crate::state::Outcome;
 use checks::call_limit_tracker::LimitReached;
 use matching::position::{BytePosition, TokenIndex};
@@ -23,8 +23,8 @@ use reading::parser_state::{Cause, Ending};
 fn stopped(tokens: &mut [u32], report: &mut [u32], number: u32, place: u32) -> Outcome
     ensures { outcome_of result tokens.new report.new ≡ laid (length tokens.old) (length report.old) (Answers.stopped number place) }
 {
-    clear(tokens);
-    clear(report);
+    tokens.fill(0);
+    report.fill(0);
     Outcome {
         number: number,
         place: place,
@@ -67,7 +67,7 @@ fn of_tokens(tokens: &mut [u32], report: &mut [u32], n: TokenIndex) -> Outcome
     ensures { outcome_of result tokens.new report.new ≡ laid (length tokens.old) (length report.old) (Answers.of_tokens (tokens_of (queue_of tokens.old n.0))) }
 {
     write_tokens(tokens, n);
-    clear(report);
+    report.fill(0);
     let count = n.0 as u32;
     Outcome {
         number: 0,
@@ -83,7 +83,7 @@ fn of_failure(tokens: &mut [u32], scratch: &[u32], report: &mut [u32], t: Attemp
 {
     let place = t.furthest.0 as u32;
     let rules = write_report(scratch, t, report);
-    clear(tokens);
+    tokens.fill(0);
     let count = rules as u32;
     Outcome {
         number: 10,

@@ -8,7 +8,7 @@ ghost use Rattle.engine.specs.Areas.{Outside, view, view_end, positives_at, leng
 ghost use Rattle.engine.specs.Tokens.{Paired};
 ghost use Rattle.engine.specs.Rule.{starting, dropped, Recording, Tracking};
 
-use crate::attempts::{Noted, Tracked, track};
+use crate::attempts::{Noted, track};
 use crate::parser_state::ParserState;
 use crate::queueable_token::{push_end, push_start, set_partner, tag_last};
 use matching::position::{BytePosition, TokenIndex};
@@ -98,11 +98,11 @@ pub(crate) fn track_rule(
             Ending::Ok
         } else {
             match track(scratch, t, p, rule, n, negative) {
-                Tracked::Kept(u) => {
+                Some(u) => {
                     s.attempts = u;
                     Ending::Ok
                 }
-                Tracked::Full => Ending::Stop(Cause::AttemptsFull(line)),
+                None => Ending::Stop(Cause::AttemptsFull(line)),
             }
         }
     } else {

@@ -7,8 +7,8 @@ ghost use Rattle.engine.specs.StackReady.{StackReady, StateReady, PushReady, Out
 ghost use Rattle.engine.specs.StackMatch.{match_of};
 
 use crate::parser_state::ParserState;
-use crate::stack::{Popped, Pushed, clear_snapshot, pop, push, restore, snapshot};
-use crate::stack_match::{MatchPopped, match_pop, match_slice};
+use crate::stack::{Unpopped, clear_snapshot, pop, push, restore, snapshot};
+use crate::stack_match::{match_pop, match_slice};
 use checks::node::{Index, is_top_down, normalize_end, normalize_index};
 use matching::position::{BytePosition, Matched, match_string};
 use matching::span::as_bytes;
@@ -71,11 +71,11 @@ pub(crate) fn stack_push_end(
     let v = s.stack;
     let p = s.position;
     match push(scratch, v, start.0 as u32, p.0 as u32) {
-        Pushed::Kept(w) => {
+        Some(w) => {
             s.stack = w;
             Ending::Ok
         }
-        Pushed::Full => Ending::Stop(Cause::StackFull(line)),
+        None => Ending::Stop(Cause::StackFull(line)),
     }
 }
 
@@ -88,12 +88,12 @@ pub(crate) fn stack_pop(text: &[u8], scratch: &mut [u32], s: &mut ParserState, l
     let v = s.stack;
     let p = s.position;
     match pop(scratch, v) {
-        Popped::Got(w, x) => {
+        Ok((w, x)) => {
             s.stack = w;
             moved(s, match_string(text, p, as_bytes(text, x)))
         }
-        Popped::Empty => Ending::Stop(Cause::EmptyStack(line)),
-        Popped::Full => Ending::Stop(Cause::StackFull(line)),
+        Err(Unpopped::Empty) => Ending::Stop(Cause::EmptyStack(line)),
+        Err(Unpopped::Full) => Ending::Stop(Cause::StackFull(line)),
     }
 }
 
@@ -139,15 +139,10 @@ pub(crate) fn stack_match_pop(
     let v = s.stack;
     let p = s.position;
     match match_pop(text, scratch, v, p) {
-        MatchPopped::Matched(w, q) => {
+        Some((w, m)) => {
             s.stack = w;
-            s.position = q;
-            Ending::Ok
+            moved(s, m)
         }
-        MatchPopped::Failed(w) => {
-            s.stack = w;
-            Ending::Err
-        }
-        MatchPopped::Full => Ending::Stop(Cause::StackFull(line)),
+        None => Ending::Stop(Cause::StackFull(line)),
     }
 }

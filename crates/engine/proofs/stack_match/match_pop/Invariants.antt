@@ -1,4 +1,4 @@
--- The invariants: `Going`, the answer from here on is the whole answer; and of the bytes of one entry, that those below i were the same. The three ways out of the loop meet in `met`.
+-- The invariants: `Going`, the answer from here on is the whole answer; and of the bytes of one entry, that those below i were the same.
 use Prim.Native.Nat.{◌-◌}
 use lib.Dec.{eqb}
 use lib.ListN.{drop}
