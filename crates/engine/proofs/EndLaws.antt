@@ -11,7 +11,6 @@ use Rattle.matching.specs.Position.{match_string, match_insensitive}
 use Rattle.matching.specs.Answers.{matched}
 use Rattle.matching.specs.declared.position.BytePosition.{BytePosition}
 use Rattle.matching.specs.declared.position.TokenIndex.{TokenIndex}
-use Rattle.matching.specs.declared.position.Matched.{Matched}
 use Rattle.reading.specs.declared.parser_state.Lookahead.{Lookahead}
 use Rattle.reading.specs.declared.parser_state.Atomicity.{Atomicity}
 use Rattle.reading.specs.declared.parser_state.Ending as Declared
@@ -67,14 +66,14 @@ pub if_no : {A : Type 0} (b : Bool) (x y : A) → b ≡ false → y ≡ (if b th
 if_no b x y e = rw e
 
 -- The code's answer of a matcher moves the state as the definition's does.
-pub moved_by : (o : Option ℕ) (q : Matched) (m : ParserState) → q ≡ matched o → moved (match_of q) m ≡ moved o m
-moved_by o q m e = ap (λ (x : Matched). moved (match_of x) m) e ∙ go o
+pub moved_by : (o : Option ℕ) (q : Option BytePosition) (m : ParserState) → q ≡ matched o → moved (match_of q) m ≡ moved o m
+moved_by o q m e = ap (λ (x : Option BytePosition). moved (match_of x) m) e ∙ go o
   where
     go : (y : Option ℕ) → moved (match_of (matched y)) m ≡ moved y m
     go None = refl
     go (Some p) = refl
 
-module _ (text literals : List ℕ) (offset size p : ℕ) (q : Matched) (m : ParserState) (folded : Bool) where
+module _ (text literals : List ℕ) (offset size p : ℕ) (q : Option BytePosition) (m : ParserState) (folded : Bool) where
   same_size : offset + size - offset ≡ size
   same_size = omega arith
 

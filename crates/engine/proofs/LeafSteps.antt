@@ -14,8 +14,6 @@ use borrow.Author.Tests.{eq-eqb, ne_eqb}
 use Rattle.matching.specs.Position as Position
 use Rattle.matching.specs.Answers.{matched}
 use Rattle.matching.specs.declared.position.BytePosition.{BytePosition}
-use Rattle.matching.specs.declared.position.Matched.{Matched}
-use Rattle.matching.specs.declared.position.Matched.TheVariants as Matched-of
 use Rattle.engine.specs.declared.node.Line as Read
 use Rattle.engine.specs.declared.parser_state.ParserState as Code
 use Rattle.reading.specs.Ending.{Ending, Ok, Err}
@@ -60,17 +58,17 @@ module _ (ns : List ℤ) (literals text : List ℕ) (capacity d : ℕ) (w : Acce
     pub leaf_2 : n.kind ≡ 2 → Fit (setting_of ns literals text capacity) m → (y : Ending ParserState) → y ≡ Pest.moved (Position.match_insensitive text L p) m → y ≡ At m
     leaf_2 q f y z = end_2 ns literals text capacity d w l i n e q m f y (z ∙ ap (λ (k : ℕ). Pest.moved (Position.match_insensitive text L k) m) (sym x))
 
-    pub leaf_3 : n.kind ≡ 3 → (r : Matched) → r ≡ matched (Position.match_range text n.a n.b p) → Pest.moved (match_of r) m ≡ At m
+    pub leaf_3 : n.kind ≡ 3 → (r : Option BytePosition) → r ≡ matched (Position.match_range text n.a n.b p) → Pest.moved (match_of r) m ≡ At m
     leaf_3 q r z =
         end_3 ns literals text capacity d w l i n e q m (Pest.moved (match_of r) m)
         (moved_by (Position.match_range text n.a n.b p) r m z ∙ ap (λ (k : ℕ). Pest.moved (Position.match_range text n.a n.b k) m) (sym x))
 
-    pub leaf_4 : n.kind ≡ 4 → Fit (setting_of ns literals text capacity) m → (r : Matched) → r ≡ matched (Position.skip text n.a p) → Pest.moved (match_of r) m ≡ At m
+    pub leaf_4 : n.kind ≡ 4 → Fit (setting_of ns literals text capacity) m → (r : Option BytePosition) → r ≡ matched (Position.skip text n.a p) → Pest.moved (match_of r) m ≡ At m
     leaf_4 q f r z =
         end_4 ns literals text capacity d w l i n e q m f (Pest.moved (match_of r) m)
         (moved_by (Position.skip text n.a p) r m z ∙ ap (λ (k : ℕ). Pest.moved (Position.skip text n.a k) m) (sym x))
 
-    pub leaf_5 : n.kind ≡ 5 → (r : Matched) → match_of r ≡ (if Position.at_end text p then Some p else None) → Pest.moved (match_of r) m ≡ At m
+    pub leaf_5 : n.kind ≡ 5 → (r : Option BytePosition) → match_of r ≡ (if Position.at_end text p then Some p else None) → Pest.moved (match_of r) m ≡ At m
     leaf_5 q r z =
         end_5 ns literals text capacity d w l i n e q m (Pest.moved (match_of r) m)
         (ap (λ (o : Option ℕ). Pest.moved o m) (z ∙ ap (λ (k : ℕ). if Position.at_end text k then Some k else None) (sym x)) ∙ at_end_moves (Position.at_end text m.position) m)
@@ -114,11 +112,11 @@ module _ (ns : List ℤ) (literals text : List ℕ) (capacity d line : ℕ) (m :
   walked_done good e x = subst (Walked ns literals text capacity d line m) (sym e) (record { going = λ h. absurd (true≢false h); ended = λ _. x })
 
 -- What a match says of a state's ending.
-pub last_ok : (r : Matched) (m : ParserState) (q : BytePosition) (x : Ending ParserState) → Pest.moved (match_of r) m ≡ x → r ≡ Matched-of.At q → Ok (set_position q.0 m) ≡ x
-last_ok r m q x h e = ap (λ (y : Matched). Pest.moved (match_of y) m) (sym e) ∙ h
+pub last_ok : (r : Option BytePosition) (m : ParserState) (q : BytePosition) (x : Ending ParserState) → Pest.moved (match_of r) m ≡ x → r ≡ Some q → Ok (set_position q.0 m) ≡ x
+last_ok r m q x h e = ap (λ (y : Option BytePosition). Pest.moved (match_of y) m) (sym e) ∙ h
 
-pub last_err : (r : Matched) (m : ParserState) (p : ℕ) (x : Ending ParserState) → m.position ≡ p → Pest.moved (match_of r) m ≡ x → r ≡ Matched-of.Failed → Err (set_position p m) ≡ x
-last_err r m p x z h e = ap Err (same_place m p z) ∙ ap (λ (y : Matched). Pest.moved (match_of y) m) (sym e) ∙ h
+pub last_err : (r : Option BytePosition) (m : ParserState) (p : ℕ) (x : Ending ParserState) → m.position ≡ p → Pest.moved (match_of r) m ≡ x → r ≡ None → Err (set_position p m) ≡ x
+last_err r m p x z h e = ap Err (same_place m p z) ∙ ap (λ (y : Option BytePosition). Pest.moved (match_of y) m) (sym e) ∙ h
 
 go_ok : (k : ℕ) → k ≡ 6 → (m : ParserState) → go m ≡ going k (Ok m)
 unfolding going

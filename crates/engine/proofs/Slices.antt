@@ -11,8 +11,6 @@ use lib.Seq.{take-suc, drop-cons, get_or-drop, get_or_at}
 use Rattle.matching.specs.Answers.{matched}
 use Rattle.matching.specs.Position.{match_string}
 use Rattle.matching.specs.declared.position.BytePosition.{BytePosition}
-use Rattle.matching.specs.declared.position.Matched.{Matched}
-use Rattle.matching.specs.declared.position.Matched.TheVariants.{At, Failed}
 use Rattle.reading.specs.Pest as Pest
 use Rattle.reading.specs.Ending.{Span}
 use Rattle.reading.specs.Pest.{slice, all_match, as_str}
@@ -91,20 +89,20 @@ module _ (a : List ℕ) where
   left_next start end k false h m l g = slice_up k end h l g
 
 -- ── A slice, matched ──
-pub matched_at : (o : Option ℕ) (q : BytePosition) → matched o ≡ At q → o ≡ Some q.0
+pub matched_at : (o : Option ℕ) (q : BytePosition) → matched o ≡ Some q → o ≡ Some q.0
 matched_at None q e = let z : ◌≡◌ {A = ℕ} 0 1 = cc in absurd (omega arith)
 matched_at (Some p) q e = let f : record { 0 = p } ≡ q = cc in ap (λ (x : BytePosition). Some x.0) f
 
-pub matched_failed : (o : Option ℕ) → matched o ≡ Failed → o ≡ None
+pub matched_failed : (o : Option ℕ) → matched o ≡ None → o ≡ None
 matched_failed None e = refl
 matched_failed (Some p) e = let z : ◌≡◌ {A = ℕ} 0 1 = cc in absurd (omega arith)
 
-module _ (text : List ℕ) (x : Span) (bytes : List ℕ) (eb : bytes ≡ as_str text x) (p : ℕ) (r : Matched) (er : r ≡ matched (match_string text bytes p)) where
+module _ (text : List ℕ) (x : Span) (bytes : List ℕ) (eb : bytes ≡ as_str text x) (p : ℕ) (r : Option BytePosition) (er : r ≡ matched (match_string text bytes p)) where
   -- What a string that was matched by the crate below says of pest's match of an entry.
-  pub entry_at_end : (q : BytePosition) → r ≡ At q → Pest.match_string text (as_str text x) p ≡ Some q.0
+  pub entry_at_end : (q : BytePosition) → r ≡ Some q → Pest.match_string text (as_str text x) p ≡ Some q.0
   entry_at_end q e = rw (← eb) (match_string_same text bytes p ∙ matched_at (match_string text bytes p) q (sym er ∙ e))
 
-  pub entry_failed : r ≡ Failed → Pest.match_string text (as_str text x) p ≡ None
+  pub entry_failed : r ≡ None → Pest.match_string text (as_str text x) p ≡ None
   entry_failed e = rw (← eb) (match_string_same text bytes p ∙ matched_failed (match_string text bytes p) (sym er ∙ e))
 
 module _ (text : List ℕ) (x : Span) (xs : List Span) (p : ℕ) where
@@ -129,11 +127,11 @@ module _ (text a : List ℕ) (down : Bool) (start end : ℕ) (pos : BytePosition
   left_start = record { rest = λ h l. ap (λ (xs : List Span). all_match text xs pos.0) (left_first a start end down h) }
 
   module _ (k : ℕ) (at : BytePosition) (w : Left k at) (m : start ≤ k) where
-    module _ (l : k < end) (i : ℕ) (ei : i ≡ index_at start end k down) (bytes : List ℕ) (eb : bytes ≡ as_str text (entry_at a i)) (r : Matched) (er : r ≡ matched (match_string text bytes at.0)) where
+    module _ (l : k < end) (i : ℕ) (ei : i ≡ index_at start end k down) (bytes : List ℕ) (eb : bytes ≡ as_str text (entry_at a i)) (r : Option BytePosition) (er : r ≡ matched (match_string text bytes at.0)) where
       next : (h : ℕ) → end ≤ h → left a start end k down h ≡ entry_at a i ∷ left a start end (k + 1) down h
       next h g = left_next a start end k down h m l g ∙ ap (λ (j : ℕ). entry_at a j ∷ left a start end (k + 1) down h) (sym ei)
 
-      pub left_more : (q : BytePosition) → r ≡ At q → Left (k + 1) q
+      pub left_more : (q : BytePosition) → r ≡ Some q → Left (k + 1) q
       left_more q e = record {
         rest = λ h g.
             let t : all_match text (left a start end k down h) at.0 ≡ all_match text (left a start end (k + 1) down h) q.0 =
@@ -142,14 +140,14 @@ module _ (text a : List ℕ) (down : Bool) (start end : ℕ) (pos : BytePosition
             sym t ∙ w.rest h g;
       }
 
-      pub left_fails : (h : ℕ) → end ≤ h → r ≡ Failed → Failed ≡ matched (all_match text (slice start end down (pairs span a 0 h)) pos.0)
+      pub left_fails : (h : ℕ) → end ≤ h → r ≡ None → None ≡ matched (all_match text (slice start end down (pairs span a 0 h)) pos.0)
       left_fails h g e =
           let t : all_match text (left a start end k down h) at.0 ≡ None =
           ap (λ (xs : List Span). all_match text xs at.0) (next h g)
           ∙ all_none text (entry_at a i) (left a start end (k + 1) down h) at.0 (entry_failed text (entry_at a i) bytes eb at.0 r er e) in
           ap matched (sym t ∙ w.rest h g)
 
-    pub left_done : (h : ℕ) → end ≤ h → end ≤ k → At at ≡ matched (all_match text (slice start end down (pairs span a 0 h)) pos.0)
+    pub left_done : (h : ℕ) → end ≤ h → end ≤ k → Some at ≡ matched (all_match text (slice start end down (pairs span a 0 h)) pos.0)
     left_done h g l =
         let t : all_match text (left a start end k down h) at.0 ≡ Some at.0 = ap (λ (xs : List Span). all_match text xs at.0) (left_last a start end k down h m l) in
         ap matched (sym t ∙ w.rest h g)

@@ -16,12 +16,10 @@ use Rattle.matching.specs.declared.span.Span as Code
 use Rattle.matching.specs.Answers.{matched}
 use Rattle.matching.specs.Position.{match_string, bytes_of}
 use Rattle.matching.specs.declared.position.BytePosition.{BytePosition}
-use Rattle.matching.specs.declared.position.Matched.{Matched}
 use Rattle.reading.specs.declared.parser_state.Ending as Code·ending
 use Rattle.reading.specs.Pest as Pest
 use Rattle.engine.specs.declared.stack.Stack.{Stack}
 use Rattle.engine.specs.declared.stack.Unpopped.{Unpopped}
-use Rattle.checks.specs.declared.node.Index.{Index}
 use Rattle.engine.specs.Fields as Fields
 use Rattle.engine.specs.declared.parser_state.ParserState.{ParserState}
 use Rattle.reading.specs.declared.parser_state.Cause.TheVariants.{EmptyStack, StackFull}
@@ -34,7 +32,6 @@ use Rattle.reading.specs.Sound.{Sound}
 use Rattle.engine.specs.StackReady.{StackReady, StateReady, OutsideStack}
 use Rattle.engine.specs.StackMatch.{match_of, match_end}
 use Rattle.reading.specs.Reading.{index_in, end_in}
-use Rattle.checks.specs.PeekIndex.{index_of}
 use Rattle.checks.proofs.IndexLaws.{pest_index, pest_end}
 use Rattle.engine.proofs.Regions.{pairs_length, numbers_length}
 use Rattle.engine.proofs.ReadyLaws.{positives_kept, negatives_kept, ready_of}
@@ -83,10 +80,10 @@ pub stack_changed : (f : Pest.Stack → Pest.Stack) {a b : List ℕ} {s t : Pars
 stack_changed f {a} {b} {s} w r ev e et = (view_stack r e.1 w (f (stack_of a s.stack)) (e.0 ∙ ap (λ (u : Stack). f (stack_of a u)) ev) et, e.1)
 
 -- ── moved ──
-pub moved_at : (m : Matched) (p : BytePosition) (s t : ParserState) → m ≡ Matched.At p → t ≡ Fields.set_position p s → (tokens scratch : List ℕ) → Ok (view tokens scratch t) ≡ moved (match_of m) (view tokens scratch s)
+pub moved_at : (m : Option BytePosition) (p : BytePosition) (s t : ParserState) → m ≡ Some p → t ≡ Fields.set_position p s → (tokens scratch : List ℕ) → Ok (view tokens scratch t) ≡ moved (match_of m) (view tokens scratch s)
 moved_at m p s t e et tokens scratch = rw (e, et)
 
-pub moved_not : (m : Matched) (s : ParserState) → m ≡ Matched.Failed → (tokens scratch : List ℕ) → Err (view tokens scratch s) ≡ moved (match_of m) (view tokens scratch s)
+pub moved_not : (m : Option BytePosition) (s : ParserState) → m ≡ None → (tokens scratch : List ℕ) → Err (view tokens scratch s) ≡ moved (match_of m) (view tokens scratch s)
 moved_not m s e tokens scratch = rw e
 
 matched_back : (o : Option ℕ) → match_of (matched o) ≡ o
@@ -161,7 +158,7 @@ module _ (text : List ℕ) (line : ℕ) {a b : List ℕ} {s : ParserState} (r : 
   took_of = e.0 ∙ ap (λ (u : Stack). taken (stack_of a u)) ev
 
   pub pop_moved : (w : Stack) (x : Code.Span) → p ≡ Result.Ok (w, x) → {t : ParserState} → t ≡ Fields.set_stack w s → (bytes : List ℕ) → bytes ≡ bytes_of text x.start.0 x.end.0
-      → {y : BytePosition} → y ≡ s.position → (q : Matched) → q ≡ matched (match_string text bytes y.0)
+      → {y : BytePosition} → y ≡ s.position → (q : Option BytePosition) → q ≡ matched (match_string text bytes y.0)
       → (end : ParserState) (z : Code·ending.Ending) → ((tokens scratch : List ℕ) → view_end tokens scratch end z ≡ moved (match_of q) (view tokens scratch t))
       → ((tokens : List ℕ) → view_end tokens b end z ≡ stack_pop text true line (stack_of a s.stack).cache (view tokens a s)) × OutsideStack a b
   pop_moved w x f et bytes eb {y} ey q eq end z ez = (
@@ -181,14 +178,14 @@ module _ (text : List ℕ) (line : ℕ) {a b : List ℕ} {s : ParserState} (r : 
   pop_indebted f = (λ tokens. step_full text line (view tokens a s) (rw f at took_of), e.1)
 
 -- ── stack_match_pop ──
-module _ (text : List ℕ) (line : ℕ) {a b : List ℕ} {s : ParserState} (r : StateReady a s) {v : Stack} (ev : v ≡ s.stack) {y : BytePosition} (ey : y ≡ s.position) (p : Option (Stack × Matched))
+module _ (text : List ℕ) (line : ℕ) {a b : List ℕ} {s : ParserState} (r : StateReady a s) {v : Stack} (ev : v ≡ s.stack) {y : BytePosition} (ey : y ≡ s.position) (p : Option (Stack × Option BytePosition))
     (e : ((l : ℕ) → (m : Pest.ParserState) → match_end b l m p ≡ stack_match_pop text true l (stack_of a v).cache y.0 (set_stack (stack_of a v) m)) × OutsideStack a b) where
   ends : (tokens : List ℕ) → match_end b line (view tokens a s) p ≡ stack_match_pop text true line (stack_of a s.stack).cache s.position.0 (view tokens a s)
   ends tokens =
       e.0 line (view tokens a s)
       ∙ ap₂ (λ (u : Stack) (n : BytePosition). stack_match_pop text true line (stack_of a u).cache n.0 (set_stack (stack_of a u) (view tokens a s))) ev ey
 
-  pub popped_some : (w : Stack) (q : Matched) → p ≡ Some (w, q) → {t : ParserState} → t ≡ Fields.set_stack w s
+  pub popped_some : (w : Stack) (q : Option BytePosition) → p ≡ Some (w, q) → {t : ParserState} → t ≡ Fields.set_stack w s
       → (end : ParserState) (z : Code·ending.Ending) → ((tokens scratch : List ℕ) → view_end tokens scratch end z ≡ moved (match_of q) (view tokens scratch t))
       → ((tokens : List ℕ) → view_end tokens b end z ≡ stack_match_pop text true line (stack_of a s.stack).cache s.position.0 (view tokens a s)) × OutsideStack a b
   popped_some w q f et end z ez = (
@@ -205,13 +202,11 @@ module _ (text : List ℕ) (line : ℕ) {a b : List ℕ} {s : ParserState} (r : 
   popped_indebted f = (λ tokens. sym (ap (match_end b line (view tokens a s)) f) ∙ ends tokens, e.1)
 
 -- ── stack_match_peek_slice ──
-index_at : (o : Option ℕ) (r : Index) (n : ℕ) → r ≡ index_of o → r ≡ Index.At n → o ≡ Some n
-index_at None r n e f = let z : ◌≡◌ {A = ℕ} 0 1 = cc in absurd (omega arith)
-index_at (Some k) r n e f = let g : k ≡ n = cc in ap Some g
+index_at : (o r : Option ℕ) (n : ℕ) → r ≡ o → r ≡ Some n → o ≡ Some n
+index_at o r n e f = sym e ∙ f
 
-index_out : (o : Option ℕ) (r : Index) → r ≡ index_of o → r ≡ Index.Outside → o ≡ None
-index_out None r e f = refl
-index_out (Some k) r e f = let z : ◌≡◌ {A = ℕ} 0 1 = cc in absurd (omega arith)
+index_out : (o r : Option ℕ) → r ≡ o → r ≡ None → o ≡ None
+index_out o r e f = sym e ∙ f
 
 -- A normalised index is at most the height.
 normal_inside : (i : ℤ) (len n : ℕ) → normalize_index i len ≡ Some n → n ≤ len
@@ -259,7 +254,7 @@ module _ (text : List ℕ) (i : ℤ) (j : Option ℤ) (d : Bool) (m : Pest.Parse
           go : (b : Bool) → b ≡ true → ◌≡◌ {A = Ending Pest.ParserState} (elim b [ true ↦ Ok m | false ↦ moved (all_match text (slice start end d m.stack.cache) m.position) m ]) (Ok m)
           go b t = rw t
 
-      peek_moved : start < end → (q : Matched) → q ≡ matched (all_match text (slice start end d m.stack.cache) m.position) → moved (match_of q) m ≡ stack_match_peek_slice text i j d m
+      peek_moved : start < end → (q : Option BytePosition) → q ≡ matched (all_match text (slice start end d m.stack.cache) m.position) → moved (match_of q) m ≡ stack_match_peek_slice text i j d m
       peek_moved l q eq =
           ap (λ (o : Option ℕ). moved o m) (ap match_of eq ∙ matched_back (all_match text (slice start end d m.stack.cache) m.position))
           ∙ sym (peek_is (Some start) (Some end) e f ∙ go (leb end start) (lt-leb end start l))
@@ -272,25 +267,25 @@ module _ (text : List ℕ) (i : ℤ) (j : Option ℤ) (d : Bool) (m : Pest.Parse
 abbrev pub end_of : (c : ℕ) → (b : ℤ) → Option ℤ
 end_of c b = if ltb c 2 then Some b else None
 
-module _ (text a : List ℕ) (i b : ℤ) (c : ℕ) (s : ParserState) (v : Stack) (ev : v ≡ s.stack) (r : Index) (er : r ≡ index_of (index_in v.height i)) where
+module _ (text a : List ℕ) (i b : ℤ) (c : ℕ) (s : ParserState) (v : Stack) (ev : v ≡ s.stack) (r : Option ℕ) (er : r ≡ index_in v.height i) where
   tall : (tokens : List ℕ) → length (view tokens a s).stack.cache ≡ v.height
   tall tokens = pairs_length span a 0 s.stack.height ∙ sym (ap (λ (u : Stack). u.height) ev)
 
   abbrev down : Bool
   down = eqb c 1 || eqb c 3
 
-  pub start_out : r ≡ Index.Outside → (tokens : List ℕ) → Err (view tokens a s) ≡ stack_match_peek_slice text i (end_of c b) down (view tokens a s)
+  pub start_out : r ≡ None → (tokens : List ℕ) → Err (view tokens a s) ≡ stack_match_peek_slice text i (end_of c b) down (view tokens a s)
   start_out f tokens = peek_start_out text i (end_of c b) down (view tokens a s) v.height (tall tokens) (index_out (normalize_index i v.height) r (pest_index i v.height er) f)
 
-  module _ (start : ℕ) (f : r ≡ Index.At start) (r₂ : Index) (er₂ : r₂ ≡ index_of (end_in v.height (end_of c b))) where
+  module _ (start : ℕ) (f : r ≡ Some start) (r₂ : Option ℕ) (er₂ : r₂ ≡ end_in v.height (end_of c b)) where
     start_is : normalize_index i v.height ≡ Some start
     start_is = index_at (normalize_index i v.height) r start (pest_index i v.height er) f
 
-    pub end_out : r₂ ≡ Index.Outside → (tokens : List ℕ) → Err (view tokens a s) ≡ stack_match_peek_slice text i (end_of c b) down (view tokens a s)
+    pub end_out : r₂ ≡ None → (tokens : List ℕ) → Err (view tokens a s) ≡ stack_match_peek_slice text i (end_of c b) down (view tokens a s)
     end_out g tokens =
         peek_end_out text i (end_of c b) down (view tokens a s) v.height (tall tokens) start start_is (index_out (normalize_end (end_of c b) v.height) r₂ (pest_end (end_of c b) v.height er₂) g)
 
-    module _ (end : ℕ) (g : r₂ ≡ Index.At end) where
+    module _ (end : ℕ) (g : r₂ ≡ Some end) where
       end_is : normalize_end (end_of c b) v.height ≡ Some end
       end_is = index_at (normalize_end (end_of c b) v.height) r₂ end (pest_end (end_of c b) v.height er₂) g
 
@@ -301,7 +296,7 @@ module _ (text a : List ℕ) (i b : ℤ) (c : ℕ) (s : ParserState) (v : Stack)
       slice_empty l tokens = peek_nothing text i (end_of c b) down (view tokens a s) v.height (tall tokens) start start_is end end_is l
 
       pub slice_moved : start < end → (d : Bool) → d ≡ down → {y : BytePosition} → y ≡ s.position
-          → (q : Matched) → q ≡ matched (all_match text (slice start end d (stack_of a v).cache) y.0)
+          → (q : Option BytePosition) → q ≡ matched (all_match text (slice start end d (stack_of a v).cache) y.0)
           → (t : ParserState) (z : Code·ending.Ending) → ((tokens scratch : List ℕ) → view_end tokens scratch t z ≡ moved (match_of q) (view tokens scratch s))
           → (tokens : List ℕ) → view_end tokens a t z ≡ stack_match_peek_slice text i (end_of c b) down (view tokens a s)
       slice_moved l d ed {y} ey q eq t z ez tokens =

@@ -14,7 +14,6 @@ use crate::attempts::{Attempts, write_report};
 use crate::parser_state::ParserState;
 use crate::queueable_token::write_tokens;
 use crate::state::Outcome;
-use checks::call_limit_tracker::LimitReached;
 use matching::position::{BytePosition, TokenIndex};
 use reading::call_limit_tracker::LimitKind;
 use reading::parser_state::{Cause, Ending};
@@ -97,14 +96,9 @@ fn of_ok(tokens: &mut [u32], scratch: &[u32], report: &mut [u32], s: &ParserStat
     requires { Concluding tokens.old scratch.now report.old s.now }
     ensures { outcome_of result tokens.new report.new ≡ laid (length tokens.old) (length report.old) (pest_answer (Model.Ok (view tokens.old scratch.now s.now))) }
 {
-    let t = s.tracker;
-    let reached = t.reached;
-    match reached {
-        LimitReached::By(kind) => {
-            let a = s.attempts;
-            of_limit(tokens, report, kind, a.furthest)
-        }
-        LimitReached::No => of_tokens(tokens, report, s.queue),
+    match s.tracker.reached {
+        Some(kind) => of_limit(tokens, report, kind, s.attempts.furthest),
+        None => of_tokens(tokens, report, s.queue),
     }
 }
 
@@ -112,12 +106,9 @@ fn of_err(tokens: &mut [u32], scratch: &[u32], report: &mut [u32], s: &ParserSta
     requires { Concluding tokens.old scratch.now report.old s.now }
     ensures { outcome_of result tokens.new report.new ≡ laid (length tokens.old) (length report.old) (pest_answer (Model.Err (view tokens.old scratch.now s.now))) }
 {
-    let t = s.tracker;
-    let a = s.attempts;
-    let reached = t.reached;
-    match reached {
-        LimitReached::By(kind) => of_limit(tokens, report, kind, a.furthest),
-        LimitReached::No => of_failure(tokens, scratch, report, a),
+    match s.tracker.reached {
+        Some(kind) => of_limit(tokens, report, kind, s.attempts.furthest),
+        None => of_failure(tokens, scratch, report, s.attempts),
     }
 }
 

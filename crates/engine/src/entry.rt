@@ -6,7 +6,6 @@ ghost use Rattle.engine.specs.Entry.{EnteredBy};
 
 use crate::parser_state::ParserState;
 use checks::call_limit_tracker;
-use checks::call_limit_tracker::LimitReached;
 
 // How many more calls may be open below a call that is let in; `depth`: how many before it. The tracker is lent to pest's `enter`.
 pub(crate) fn enter(s: &mut ParserState, counted: bool, depth: usize) -> Option<usize>
@@ -23,10 +22,5 @@ pub(crate) fn enter(s: &mut ParserState, counted: bool, depth: usize) -> Option<
 pub(crate) fn limit_reached(s: &ParserState) -> bool
     ensures { (tokens scratch : List ℕ) → result ≡ Pest.limit_reached (view tokens scratch s.now) }
 {
-    let t = s.tracker;
-    let reached = t.reached;
-    match reached {
-        LimitReached::By(_) => true,
-        LimitReached::No => false,
-    }
+    s.tracker.reached.is_some()
 }

@@ -11,7 +11,7 @@ use crate::node::line_at;
 use crate::parser_state::Setting;
 use crate::spine::is_fork;
 use crate::terminals::{match_end, match_literal};
-use matching::position::{BytePosition, Matched, match_range, skip};
+use matching::position::{BytePosition, match_range, skip};
 
 // Where a walk over leaves ends: done, with Ok or not; or at a line that the walk leaves to others. The position either way.
 #[derive(Clone, Copy)]
@@ -47,7 +47,7 @@ fn finished(line: usize, p: BytePosition, good: bool) -> Halt
 }
 
 // A line of kind 1 to 5.
-pub(crate) fn leaf(g: &Setting, line: usize, p: BytePosition) -> Matched
+pub(crate) fn leaf(g: &Setting, line: usize, p: BytePosition) -> Option<BytePosition>
     requires accepted { Accepted g.now }
     requires line { Line g.now.nodes.now line × (kind_at g.now.nodes.now line ≤ 5) }
     ensures { (depth : ℕ) (m : Pest.ParserState) → FitIn g.now m → m.position ≡ p.0 → Pest.moved (match_of result) m ≡ evaluates g.now depth line m }
@@ -74,8 +74,8 @@ fn last(g: &Setting, line: usize, p: BytePosition) -> Halt
         return halted(line, p);
     }
     match leaf(g, line, p) {
-        Matched::At(q) => finished(line, q, true),
-        Matched::Failed => finished(line, p, false),
+        Some(q) => finished(line, q, true),
+        None => finished(line, p, false),
     }
 }
 
@@ -97,13 +97,13 @@ pub(crate) fn walk(g: &Setting, line: usize, p: BytePosition) -> Halt
             return halted(at, position);
         }
         match leaf(g, n.a, position) {
-            Matched::At(q) => {
+            Some(q) => {
                 if n.kind == 7 {
                     return finished(at, q, true);
                 }
                 position = q;
             }
-            Matched::Failed => {
+            None => {
                 if n.kind == 6 {
                     return finished(at, position, false);
                 }

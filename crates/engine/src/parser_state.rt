@@ -19,7 +19,7 @@ use crate::rule::{start_rule, tag_node};
 use crate::spine::{descend, ended, goes_right, spine_at};
 use crate::stack::Stack;
 use crate::stack_state::{checkpoint, moved, stack_match_peek_slice, stack_match_pop, stack_pop};
-use checks::call_limit_tracker::{CallLimitTracker, LimitReached};
+use checks::call_limit_tracker::CallLimitTracker;
 use checks::packed::{packed, unpacked};
 use matching::position::{BytePosition, TokenIndex};
 use reading::parser_state::{Atomicity, Ending, Lookahead};
@@ -67,7 +67,7 @@ impl ParserState {
             tracker: CallLimitTracker {
                 current: 0,
                 limit: call_limit as usize,
-                reached: LimitReached::No,
+                reached: None,
             },
             lookahead: Lookahead::None,
             atomicity: Atomicity::NonAtomic,

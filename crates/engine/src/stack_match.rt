@@ -8,7 +8,7 @@ ghost use Rattle.engine.specs.StackMatch.{entry_at, index_at, match_end};
 
 use crate::areas::{ENTRIES_AT, pair_at};
 use crate::stack::{Stack, pop, span_of};
-use matching::position::{BytePosition, Matched, match_string};
+use matching::position::{BytePosition, match_string};
 use matching::span::as_bytes;
 
 // The bytes of the entry at an index from the bottom, as a part of the text.
@@ -37,19 +37,19 @@ pub(crate) fn match_slice(
     start: usize,
     end: usize,
     down: bool,
-) -> Matched
+) -> Option<BytePosition>
     requires { StackReady scratch.now s × (end ≤ s.height) }
     ensures { result ≡ matched (all_match text.now (slice start end down (stack_of scratch.now s).cache) pos.0) }
 {
     let mut at = pos;
     for k in start..end {
         let i = index_at(start, end, k, down);
-        let Matched::At(q) = match_string(text, at, entry(text, scratch, i)) else {
-            return Matched::Failed;
+        let Some(q) = match_string(text, at, entry(text, scratch, i)) else {
+            return None;
         };
         at = q;
     }
-    Matched::At(at)
+    Some(at)
 }
 
 // Whether n bytes stand at the position `at` of a text of `size` bytes.
@@ -66,7 +66,7 @@ pub(crate) fn match_pop(
     scratch: &mut [u32],
     s: Stack,
     p: BytePosition,
-) -> Option<(Stack, Matched)>
+) -> Option<(Stack, Option<BytePosition>)>
     requires { StackReady scratch.old s }
     ensures state_after { (line : ℕ) → (m : ParserState) → match_end scratch.new line m result ≡ stack_match_pop text.now true line (stack_of scratch.old s).cache p.0 (set_stack (stack_of scratch.old s) m) }
     ensures outside_stack { OutsideStack scratch.old scratch.new }
@@ -77,7 +77,7 @@ pub(crate) fn match_pop(
     let matched = 'entries: loop {
         let h = t.height;
         if h == 0 {
-            break Matched::At(BytePosition(at));
+            break Some(BytePosition(at));
         }
         let Ok((u, x)) = pop(scratch, t) else {
             return None;
@@ -86,12 +86,12 @@ pub(crate) fn match_pop(
         let bytes = as_bytes(text, x);
         let n = bytes.len();
         if !has_room(text.len(), at, n) {
-            break Matched::Failed;
+            break None;
         }
         let mut i = 0;
         while i < n {
             if text[at + i] != bytes[i] {
-                break 'entries Matched::Failed;
+                break 'entries None;
             }
             i += 1;
         }

@@ -9,8 +9,8 @@ ghost use Rattle.engine.specs.StackMatch.{match_of};
 use crate::parser_state::ParserState;
 use crate::stack::{Unpopped, clear_snapshot, pop, push, restore, snapshot};
 use crate::stack_match::{match_pop, match_slice};
-use checks::node::{Index, is_top_down, normalize_end, normalize_index};
-use matching::position::{BytePosition, Matched, match_string};
+use checks::node::{is_top_down, normalize_end, normalize_index};
+use matching::position::{BytePosition, match_string};
 use matching::span::as_bytes;
 use reading::parser_state::{Cause, Ending};
 
@@ -45,15 +45,15 @@ pub(crate) fn restored(scratch: &mut [u32], s: &mut ParserState)
 }
 
 // The position after a match, or the same with Err.
-pub(crate) fn moved(s: &mut ParserState, m: Matched) -> Ending
+pub(crate) fn moved(s: &mut ParserState, m: Option<BytePosition>) -> Ending
     ensures { (tokens scratch : List ℕ) → view_end tokens scratch s.new result ≡ moved (match_of m) (view tokens scratch s.old) }
 {
     match m {
-        Matched::At(p) => {
+        Some(p) => {
             s.position = p;
             Ending::Ok
         }
-        Matched::Failed => Ending::Err,
+        None => Ending::Err,
     }
 }
 
@@ -111,10 +111,10 @@ pub(crate) fn stack_match_peek_slice(
 {
     let v = s.stack;
     let h = v.height;
-    let Index::At(start) = normalize_index(a, h) else {
+    let Some(start) = normalize_index(a, h) else {
         return Ending::Err;
     };
-    let Index::At(end) = normalize_end(b, c, h) else {
+    let Some(end) = normalize_end(b, c, h) else {
         return Ending::Err;
     };
     if end <= start {

@@ -3,7 +3,7 @@ ghost use Rattle.std.specs.Prelude.{◌≡◌, List, ℕ, ◌≤◌, length};
 ghost use Rattle.reading.specs.Pest as Pest;
 ghost use Rattle.engine.specs.Areas.{view};
 ghost use Rattle.reading.specs.Outcome.{refusal, capacity};
-ghost use Rattle.engine.specs.Conclude.{outcome_of};
+ghost use Rattle.engine.specs.Conclude.{outcome_of, refused_with};
 ghost use Rattle.reading.specs.Run.{input, Ran};
 
 use crate::conclude::conclude;
@@ -19,12 +19,23 @@ pub struct Outcome {
     pub count: u32,
 }
 
+impl From<Refused> for Outcome {
+    ghost from_gives = { λ e r. r ≡ refused_with e };
+
+    fn from(refused: Refused) -> Outcome {
+        Outcome {
+            number: refused.number(),
+            place: refused.place(),
+            count: 0,
+        }
+    }
+}
+
 // "Capacity is a fifth of the area, rounded down, at most 65,535."
 fn capacity_of(tokens: &[u32]) -> usize
     ensures { result ≡ capacity tokens.now }
 {
-    let fifth = tokens.len() / 5;
-    if fifth <= 65535 { fifth } else { 65535 }
+    (tokens.len() / 5).min(65535)
 }
 
 // A run that no test refuses.
@@ -68,15 +79,16 @@ pub fn run<'a>(
 ) -> Outcome
     ensures { Ran (input nodes.now literals.now text.now depth_limit call_limit tokens.old report.old (length scratch.old)) (outcome_of result tokens.new report.new) scratch.old scratch.new }
 {
-    let m = report.len();
-    let k = scratch.len();
-    match refusal(nodes, literals, text, depth_limit, m, k) {
-        Refused::By(number, place) => Outcome {
-            number: number,
-            place: place,
-            count: 0,
-        },
-        Refused::No => started(
+    match refusal(
+        nodes,
+        literals,
+        text,
+        depth_limit,
+        report.len(),
+        scratch.len(),
+    ) {
+        Err(refused) => Outcome::from(refused),
+        Ok(()) => started(
             nodes,
             literals,
             text,

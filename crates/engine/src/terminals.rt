@@ -4,7 +4,7 @@ ghost use Rattle.matching.specs.Position as Position;
 ghost use Rattle.reading.specs.Pest as Pest;
 ghost use Rattle.engine.specs.StackMatch.{match_of};
 
-use matching::position::{BytePosition, Matched, end_of_input, match_insensitive, match_string};
+use matching::position::{BytePosition, end_of_input, match_insensitive, match_string};
 
 // Kinds 1 and 2: whether `size` bytes from `offset` on of the literal text stand at p, and where they end.
 pub(crate) fn match_literal<'a>(
@@ -14,7 +14,7 @@ pub(crate) fn match_literal<'a>(
     size: usize,
     insensitive: bool,
     p: BytePosition,
-) -> Matched
+) -> Option<BytePosition>
     requires { offset + size ≤ length literals.now }
     ensures { (m : Pest.ParserState) → Pest.moved (match_of result) m ≡ Pest.moved (if insensitive then Position.match_insensitive text.now (take size (drop offset literals.now)) p.0 else Position.match_string text.now (take size (drop offset literals.now)) p.0) m }
 {
@@ -28,12 +28,8 @@ pub(crate) fn match_literal<'a>(
 }
 
 // Kind 5: a match of no bytes at the end, by the position's own test.
-pub(crate) fn match_end(text: &[u8], p: BytePosition) -> Matched
+pub(crate) fn match_end(text: &[u8], p: BytePosition) -> Option<BytePosition>
     ensures { match_of result ≡ (if Position.at_end text.now p.0 then Some p.0 else None) }
 {
-    if end_of_input(text, p) {
-        Matched::At(p)
-    } else {
-        Matched::Failed
-    }
+    if end_of_input(text, p) { Some(p) } else { None }
 }

@@ -18,8 +18,8 @@ leaf-requires-clause-accepted c = c.requires.accepted
 pub leaf-requires-clause-line : goal.leaf-requires-clause-line
 leaf-requires-clause-line c = (c.requires.line, kind_low _ _ _ c.line_at-n.ensures (omega (arith, c.if-n-gt5.false)))
 
-pub returns-in-At : goal.returns-in-At
-returns-in-At c = λ depth m f x. walked_done _ _ _ _ depth _ m _ _ _ true c.finished.ensures (last_ok _ _ _ _ (c.leaf.ensures depth m f x) c.in-At.is)
+pub returns-in-Some : goal.returns-in-Some
+returns-in-Some c = λ depth m f x. walked_done _ _ _ _ depth _ m _ _ _ true c.finished.ensures (last_ok _ _ _ _ (c.leaf.ensures depth m f x) c.in-Some.is)
 
-pub returns-in-Failed : goal.returns-in-Failed
-returns-in-Failed c = λ depth m f x. walked_done _ _ _ _ depth _ m _ _ _ false c.finished-in-Failed.ensures (last_err _ _ _ _ x (c.leaf.ensures depth m f x) c.in-Failed.is)
+pub returns-in-None : goal.returns-in-None
+returns-in-None c = λ depth m f x. walked_done _ _ _ _ depth _ m _ _ _ false c.finished-in-None.ensures (last_err _ _ _ _ x (c.leaf.ensures depth m f x) c.in-None.is)

@@ -40,19 +40,19 @@ pub leaf-requires-clause-line : goal.leaf-requires-clause-line
 leaf-requires-clause-line c = (left_line _ _ (accepted _ _ c.requires.accepted.0 c.requires.accepted.1) _ c.loop-n.invariant.0 _ c.line_at-n.ensures ((c.is_fork.ensures.0 (not-false _ (ap not c.if-not-is_fork.false)))), kind_low _ _ _ c.line_at-m.ensures (omega (arith, c.if-m-gt5.false)))
 
 pub returns-then-n-eq7 : goal.returns-then-n-eq7
-returns-then-n-eq7 c = λ d m f x. let o = c.loop-n.invariant.1 d m f x in walked_done _ _ _ _ d _ m _ _ _ true c.finished.ensures (done_ok _ _ (accepted _ _ c.requires.accepted.0 c.requires.accepted.1) _ c.loop-n.invariant.0 _ c.line_at-n.ensures ((c.is_fork.ensures.0 (not-false _ (ap not c.if-not-is_fork.false)))) _ _ d _ m _ o (λ k. omega (arith, k, c.if-n-eq7.true)) _ (last_ok _ (set_position c.loop-n.position.0 m) _ _ (c.leaf.ensures d (set_position c.loop-n.position.0 m) o.fit refl) c.in-At.is))
+returns-then-n-eq7 c = λ d m f x. let o = c.loop-n.invariant.1 d m f x in walked_done _ _ _ _ d _ m _ _ _ true c.finished.ensures (done_ok _ _ (accepted _ _ c.requires.accepted.0 c.requires.accepted.1) _ c.loop-n.invariant.0 _ c.line_at-n.ensures ((c.is_fork.ensures.0 (not-false _ (ap not c.if-not-is_fork.false)))) _ _ d _ m _ o (λ k. omega (arith, k, c.if-n-eq7.true)) _ (last_ok _ (set_position c.loop-n.position.0 m) _ _ (c.leaf.ensures d (set_position c.loop-n.position.0 m) o.fit refl) c.in-Some.is))
 
 pub returns-then-n-eq6 : goal.returns-then-n-eq6
-returns-then-n-eq6 c = λ d m f x. let o = c.loop-n.invariant.1 d m f x in walked_done _ _ _ _ d _ m _ _ _ false c.finished-then-n-eq6.ensures (done_err _ _ (accepted _ _ c.requires.accepted.0 c.requires.accepted.1) _ c.loop-n.invariant.0 _ c.line_at-n.ensures ((c.is_fork.ensures.0 (not-false _ (ap not c.if-not-is_fork.false)))) _ _ d _ m _ o c.if-n-eq6.true (last_err _ (set_position c.loop-n.position.0 m) _ _ refl (c.leaf.ensures d (set_position c.loop-n.position.0 m) o.fit refl) c.in-Failed.is))
+returns-then-n-eq6 c = λ d m f x. let o = c.loop-n.invariant.1 d m f x in walked_done _ _ _ _ d _ m _ _ _ false c.finished-then-n-eq6.ensures (done_err _ _ (accepted _ _ c.requires.accepted.0 c.requires.accepted.1) _ c.loop-n.invariant.0 _ c.line_at-n.ensures ((c.is_fork.ensures.0 (not-false _ (ap not c.if-not-is_fork.false)))) _ _ d _ m _ o c.if-n-eq6.true (last_err _ (set_position c.loop-n.position.0 m) _ _ refl (c.leaf.ensures d (set_position c.loop-n.position.0 m) o.fit refl) c.in-None.is))
 
 pub loop-n-smaller-else-n-eq7 : goal.loop-n-smaller-else-n-eq7
 loop-n-smaller-else-n-eq7 c = (right_in _ _ (accepted _ _ c.requires.accepted.0 c.requires.accepted.1) _ c.loop-n.invariant.0 _ c.line_at-n.ensures ((c.is_fork.ensures.0 (not-false _ (ap not c.if-not-is_fork.false))))).1
 
 pub loop-n-preserved-else-n-eq7 : goal.loop-n-preserved-else-n-eq7
-loop-n-preserved-else-n-eq7 c = (right_line _ _ (accepted _ _ c.requires.accepted.0 c.requires.accepted.1) _ c.loop-n.invariant.0 _ c.line_at-n.ensures ((c.is_fork.ensures.0 (not-false _ (ap not c.if-not-is_fork.false)))), λ d m f x. let o = c.loop-n.invariant.1 d m f x in on_right _ _ (accepted _ _ c.requires.accepted.0 c.requires.accepted.1) _ c.loop-n.invariant.0 _ c.line_at-n.ensures ((c.is_fork.ensures.0 (not-false _ (ap not c.if-not-is_fork.false)))) _ _ d _ m _ o (⊎_elim (λ k. k) (λ k. absurd (c.if-n-eq7.false k)) ((c.is_fork.ensures.0 (not-false _ (ap not c.if-not-is_fork.false))))) _ (last_ok _ (set_position c.loop-n.position.0 m) _ _ (c.leaf.ensures d (set_position c.loop-n.position.0 m) o.fit refl) c.in-At.is))
+loop-n-preserved-else-n-eq7 c = (right_line _ _ (accepted _ _ c.requires.accepted.0 c.requires.accepted.1) _ c.loop-n.invariant.0 _ c.line_at-n.ensures ((c.is_fork.ensures.0 (not-false _ (ap not c.if-not-is_fork.false)))), λ d m f x. let o = c.loop-n.invariant.1 d m f x in on_right _ _ (accepted _ _ c.requires.accepted.0 c.requires.accepted.1) _ c.loop-n.invariant.0 _ c.line_at-n.ensures ((c.is_fork.ensures.0 (not-false _ (ap not c.if-not-is_fork.false)))) _ _ d _ m _ o (⊎_elim (λ k. k) (λ k. absurd (c.if-n-eq7.false k)) ((c.is_fork.ensures.0 (not-false _ (ap not c.if-not-is_fork.false))))) _ (last_ok _ (set_position c.loop-n.position.0 m) _ _ (c.leaf.ensures d (set_position c.loop-n.position.0 m) o.fit refl) c.in-Some.is))
 
 pub loop-n-smaller : goal.loop-n-smaller
 loop-n-smaller c = (right_in _ _ (accepted _ _ c.requires.accepted.0 c.requires.accepted.1) _ c.loop-n.invariant.0 _ c.line_at-n.ensures ((c.is_fork.ensures.0 (not-false _ (ap not c.if-not-is_fork.false))))).1
 
 pub loop-n-preserved : goal.loop-n-preserved
-loop-n-preserved c = (right_line _ _ (accepted _ _ c.requires.accepted.0 c.requires.accepted.1) _ c.loop-n.invariant.0 _ c.line_at-n.ensures ((c.is_fork.ensures.0 (not-false _ (ap not c.if-not-is_fork.false)))), λ d m f x. let o = c.loop-n.invariant.1 d m f x in over_right _ _ (accepted _ _ c.requires.accepted.0 c.requires.accepted.1) _ c.loop-n.invariant.0 _ c.line_at-n.ensures ((c.is_fork.ensures.0 (not-false _ (ap not c.if-not-is_fork.false)))) _ _ d _ m _ o c.if-n-eq6.false (last_err _ (set_position c.loop-n.position.0 m) _ _ refl (c.leaf.ensures d (set_position c.loop-n.position.0 m) o.fit refl) c.in-Failed.is))
+loop-n-preserved c = (right_line _ _ (accepted _ _ c.requires.accepted.0 c.requires.accepted.1) _ c.loop-n.invariant.0 _ c.line_at-n.ensures ((c.is_fork.ensures.0 (not-false _ (ap not c.if-not-is_fork.false)))), λ d m f x. let o = c.loop-n.invariant.1 d m f x in over_right _ _ (accepted _ _ c.requires.accepted.0 c.requires.accepted.1) _ c.loop-n.invariant.0 _ c.line_at-n.ensures ((c.is_fork.ensures.0 (not-false _ (ap not c.if-not-is_fork.false)))) _ _ d _ m _ o c.if-n-eq6.false (last_err _ (set_position c.loop-n.position.0 m) _ _ refl (c.leaf.ensures d (set_position c.loop-n.position.0 m) o.fit refl) c.in-None.is))
