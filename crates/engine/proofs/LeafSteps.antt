@@ -22,9 +22,11 @@ use Rattle.reading.specs.Grammar.{node_at, kind_at, tree_at}
 use Rattle.reading.specs.Pest as Pest
 use Rattle.reading.specs.Pest.{ParserState, set_position}
 use Rattle.engine.specs.Areas.{view, view_end}
-use Rattle.engine.specs.Evaluation.{setting_of, Line, evaluated}
+use Rattle.engine.specs.Evaluation.{setting_of, Line, evaluated, evaluates}
 use Rattle.engine.specs.declared.leaves.Halt.{Halt}
-use Rattle.engine.specs.Leaves.{Onto, Walked, answer}
+use Rattle.engine.specs.declared.leaves.Halt.TheVariants as Halt-of
+use Rattle.engine.specs.declared.parser_state.Setting.{Setting as Given}
+use Rattle.engine.specs.Leaves.{WalkedFrom, Onto, Walked, answer}
 use Rattle.engine.specs.Lines.{line_of}
 use Rattle.engine.specs.Spine.{Fork, ending_of}
 use Rattle.engine.specs.StackMatch.{match_of}
@@ -97,19 +99,10 @@ first_onto ns literals text capacity d line m p i f x = record {
 }
 
 -- A walk from where another one stands.
-pub walked_on : (ns : List ℤ) (literals text : List ℕ) (capacity d line : ℕ) (m : ParserState) (at p : ℕ) → Onto ns literals text capacity d line m at p → (r : Halt) → Walked ns literals text capacity d at (set_position p m) r → Walked ns literals text capacity d line m r
-walked_on ns literals text capacity d line m at p o r w = record {
-  going = λ h. let v = w.going h in record { here = v.here; upto = omega (arith, v.upto, o.upto); fit = v.fit; runs = v.runs ∙ o.runs };
-  ended = λ h. w.ended h ∙ o.runs;
-}
-
--- The two answers of a walk: a line that it leaves to others, and an ending.
-module _ (ns : List ℤ) (literals text : List ℕ) (capacity d line : ℕ) (m : ParserState) (at : ℕ) (p : BytePosition) (r : Halt) where
-  pub walked_halted : r ≡ record { line = at; position = p; good = false; done = false } → Onto ns literals text capacity d line m at p.0 → Walked ns literals text capacity d line m r
-  walked_halted e o = subst (Walked ns literals text capacity d line m) (sym e) (record { going = λ _. o; ended = λ h. absurd (false≢true h) })
-
-  pub walked_done : (good : Bool) → r ≡ record { line = at; position = p; good = good; done = true } → answer good (set_position p.0 m) ≡ evaluated ns literals text capacity d (tree_at ns literals line) m → Walked ns literals text capacity d line m r
-  walked_done good e x = subst (Walked ns literals text capacity d line m) (sym e) (record { going = λ h. absurd (true≢false h); ended = λ _. x })
+pub walked_on : (ns : List ℤ) (literals text : List ℕ) (capacity d line : ℕ) (m : ParserState) (at p : ℕ) → Onto ns literals text capacity d line m at p
+    → (q : BytePosition) (h : Halt) → Walked ns literals text capacity d at (set_position p m) q h → Walked ns literals text capacity d line m q h
+walked_on ns literals text capacity d line m at p o q (Halt-of.At l) w = record { here = w.here; upto = omega (arith, w.upto, o.upto); fit = w.fit; runs = w.runs ∙ o.runs }
+walked_on ns literals text capacity d line m at p o q (Halt-of.Done good) w = w ∙ o.runs
 
 -- What a match says of a state's ending.
 pub last_ok : (r : Option BytePosition) (m : ParserState) (q : BytePosition) (x : Ending ParserState) → Pest.moved (match_of r) m ≡ x → r ≡ Some q → Ok (set_position q.0 m) ≡ x
@@ -203,3 +196,16 @@ walk_on ns literals text capacity d line tokens₀ scratch₀ m₀ tokens scratc
 pub answers : (a b : List ℕ) (s : Code.ParserState) (good : Bool) → view_end a b s (ending_of good) ≡ answer good (view a b s)
 answers a b s true = refl
 answers a b s false = refl
+
+-- Where the walk from the line `at` and the state m ended: done, or at a line that it leaves to others.
+module _ (g : Given) (d at : ℕ) (m : ParserState) (r : BytePosition × Halt) (w : WalkedFrom g d at m r) where
+  pub at_done : (good : Bool) → r.1 ≡ Halt-of.Done good → answer good (set_position r.0.0 m) ≡ evaluates g d at m
+  at_done good e = subst (Walked g.nodes.now g.literals.now g.text.now g.room d at m r.0) e w
+
+  pub at_fork : (l : ℕ) → r.1 ≡ Halt-of.At l → {line : ℕ} {tokens₀ scratch₀ : List ℕ} {m₀ : ParserState} {tokens scratch : List ℕ}
+      → Walking g.nodes.now g.literals.now g.text.now g.room d line tokens₀ scratch₀ m₀ tokens scratch at m
+      → Walking g.nodes.now g.literals.now g.text.now g.room d line tokens₀ scratch₀ m₀ tokens scratch l (set_position r.0.0 m)
+  at_fork l e v = walk_on _ _ _ _ _ _ _ _ _ _ _ _ _ v l r.0.0 (subst (Walked g.nodes.now g.literals.now g.text.now g.room d at m r.0) e w)
+
+  pub no_higher : (l : ℕ) → r.1 ≡ Halt-of.At l → l ≤ at
+  no_higher l e = (subst (Walked g.nodes.now g.literals.now g.text.now g.room d at m r.0) e w).upto

@@ -1,14 +1,13 @@
 // The end of a run: what it returns, and what then stands in its areas. Document 01, "Stops and refusals".
 ghost use Rattle.std.specs.Prelude.{◌≡◌, ◌*◌, ◌≤◌, length};
-ghost use Rattle.reading.specs.Ending as Model;
-ghost use Rattle.engine.specs.Areas.{queue_of, view, view_end};
+ghost use Rattle.engine.specs.Areas.{queue_of, view_end};
 ghost use Rattle.reading.specs.Answer.{tokens_of};
 ghost use Rattle.engine.specs.Attempts.{tried};
 ghost use Rattle.engine.specs.Report.{Reportable};
 ghost use Rattle.reading.specs.Outcome as Answers;
 ghost use Rattle.reading.specs.Outcome.{laid, ascending};
 ghost use Rattle.reading.specs.Answer.{pest_answer};
-ghost use Rattle.engine.specs.Conclude.{outcome_of, Concluding, ConcludeReady};
+ghost use Rattle.engine.specs.Conclude.{outcome_of, ConcludeReady};
 
 use crate::attempts::{Attempts, write_report};
 use crate::parser_state::ParserState;
@@ -25,8 +24,8 @@ fn stopped(tokens: &mut [u32], report: &mut [u32], number: u32, place: u32) -> O
     tokens.fill(0);
     report.fill(0);
     Outcome {
-        number: number,
-        place: place,
+        number,
+        place,
         count: 0,
     }
 }
@@ -67,11 +66,10 @@ fn of_tokens(tokens: &mut [u32], report: &mut [u32], n: TokenIndex) -> Outcome
 {
     write_tokens(tokens, n);
     report.fill(0);
-    let count = n.0 as u32;
     Outcome {
         number: 0,
         place: 0,
-        count: count,
+        count: n.0 as u32,
     }
 }
 
@@ -80,39 +78,17 @@ fn of_failure(tokens: &mut [u32], scratch: &[u32], report: &mut [u32], t: Attemp
     requires { Reportable scratch.now t report.old }
     ensures { outcome_of result tokens.new report.new ≡ laid (length tokens.old) (length report.old) (Answers.of_failure t.furthest.0 (ascending (tried scratch.now t).positive) (ascending (tried scratch.now t).negative)) }
 {
-    let place = t.furthest.0 as u32;
     let rules = write_report(scratch, t, report);
     tokens.fill(0);
     let count = rules as u32;
     Outcome {
         number: 10,
-        place: place,
-        count: count,
+        place: t.furthest.0 as u32,
+        count,
     }
 }
 
-// "Ok without a limit cause is 0, even with text left over."
-fn of_ok(tokens: &mut [u32], scratch: &[u32], report: &mut [u32], s: &ParserState) -> Outcome
-    requires { Concluding tokens.old scratch.now report.old s.now }
-    ensures { outcome_of result tokens.new report.new ≡ laid (length tokens.old) (length report.old) (pest_answer (Model.Ok (view tokens.old scratch.now s.now))) }
-{
-    match s.tracker.reached {
-        Some(kind) => of_limit(tokens, report, kind, s.attempts.furthest),
-        None => of_tokens(tokens, report, s.queue),
-    }
-}
-
-fn of_err(tokens: &mut [u32], scratch: &[u32], report: &mut [u32], s: &ParserState) -> Outcome
-    requires { Concluding tokens.old scratch.now report.old s.now }
-    ensures { outcome_of result tokens.new report.new ≡ laid (length tokens.old) (length report.old) (pest_answer (Model.Err (view tokens.old scratch.now s.now))) }
-{
-    match s.tracker.reached {
-        Some(kind) => of_limit(tokens, report, kind, s.attempts.furthest),
-        None => of_failure(tokens, scratch, report, s.attempts),
-    }
-}
-
-// The answer to an ending, from the state that it left.
+// The answer to an ending, from the state that it left: "Ok without a limit cause is 0, even with text left over."
 pub(crate) fn conclude(
     tokens: &mut [u32],
     scratch: &[u32],
@@ -123,9 +99,14 @@ pub(crate) fn conclude(
     requires { ConcludeReady tokens.old scratch.now report.old s.now r }
     ensures { outcome_of result tokens.new report.new ≡ laid (length tokens.old) (length report.old) (pest_answer (view_end tokens.old scratch.now s.now r)) }
 {
+    if let Ending::Stop(cause) = r {
+        return of_cause(tokens, report, cause);
+    }
+    if let Some(kind) = s.tracker.reached {
+        return of_limit(tokens, report, kind, s.attempts.furthest);
+    }
     match r {
-        Ending::Ok => of_ok(tokens, scratch, report, s),
-        Ending::Err => of_err(tokens, scratch, report, s),
-        Ending::Stop(cause) => of_cause(tokens, report, cause),
+        Ending::Ok => of_tokens(tokens, report, s.queue),
+        _ => of_failure(tokens, scratch, report, s.attempts),
     }
 }

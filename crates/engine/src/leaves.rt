@@ -13,37 +13,11 @@ use crate::spine::is_fork;
 use crate::terminals::{match_end, match_literal};
 use matching::position::{BytePosition, match_range, skip};
 
-// Where a walk over leaves ends: done, with Ok or not; or at a line that the walk leaves to others. The position either way.
+// Where a walk over leaves ends: done, with Ok or not, or at a line that it leaves to others.
 #[derive(Clone, Copy)]
-pub struct Halt {
-    pub line: usize,
-    pub position: BytePosition,
-    pub good: bool,
-    pub done: bool,
-}
-
-// At a line that is left to others.
-fn halted(line: usize, p: BytePosition) -> Halt
-    ensures { result ≡ record { line = line; position = p; good = false; done = false } }
-{
-    Halt {
-        line: line,
-        position: p,
-        good: false,
-        done: false,
-    }
-}
-
-// At an ending.
-fn finished(line: usize, p: BytePosition, good: bool) -> Halt
-    ensures { result ≡ record { line = line; position = p; good = good; done = true } }
-{
-    Halt {
-        line: line,
-        position: p,
-        good: good,
-        done: true,
-    }
+pub(crate) enum Halt {
+    Done(bool),
+    At(usize),
 }
 
 // A line of kind 1 to 5.
@@ -53,8 +27,7 @@ pub(crate) fn leaf(g: &Setting, line: usize, p: BytePosition) -> Option<BytePosi
     ensures { (depth : ℕ) (m : Pest.ParserState) → FitIn g.now m → m.position ≡ p.0 → Pest.moved (match_of result) m ≡ evaluates g.now depth line m }
 {
     let n = line_at(g.nodes, line);
-    let kind = n.kind;
-    match kind {
+    match n.kind {
         1 => match_literal(g.literals, g.text, n.a, n.b, false, p),
         2 => match_literal(g.literals, g.text, n.a, n.b, true, p),
         3 => match_range(g.text, p, n.a as u32, n.b as u32),
@@ -63,24 +36,24 @@ pub(crate) fn leaf(g: &Setting, line: usize, p: BytePosition) -> Option<BytePosi
     }
 }
 
-// A line that is no fork: a leaf is done. (`[..]` here and below: see `node`.)
-fn last(g: &Setting, line: usize, p: BytePosition) -> Halt
+// A line that is no fork: a leaf is done.
+fn last(g: &Setting, line: usize, p: BytePosition) -> (BytePosition, Halt)
     requires accepted { Accepted g.now }
     requires line { Line g.now.nodes.now line }
     ensures { (depth : ℕ) (m : Pest.ParserState) → FitIn g.now m → m.position ≡ p.0 → WalkedFrom g.now depth line m result }
 {
     let n = line_at(g.nodes, line);
     if 5 < n.kind {
-        return halted(line, p);
+        return (p, Halt::At(line));
     }
     match leaf(g, line, p) {
-        Some(q) => finished(line, q, true),
-        None => finished(line, p, false),
+        Some(q) => (q, Halt::Done(true)),
+        None => (p, Halt::Done(false)),
     }
 }
 
-// From `line`, as far as left sides are leaves: by right sides where they are due.
-pub(crate) fn walk(g: &Setting, line: usize, p: BytePosition) -> Halt
+// From `line`, as far as left sides are leaves: by right sides where they are due. The position then, and why the walk ends.
+pub(crate) fn walk(g: &Setting, line: usize, p: BytePosition) -> (BytePosition, Halt)
     requires accepted { Accepted g.now }
     requires line { Line g.now.nodes.now line }
     ensures { (depth : ℕ) (m : Pest.ParserState) → FitIn g.now m → m.position ≡ p.0 → WalkedFrom g.now depth line m result }
@@ -94,18 +67,18 @@ pub(crate) fn walk(g: &Setting, line: usize, p: BytePosition) -> Halt
         }
         let m = line_at(g.nodes, n.a);
         if 5 < m.kind {
-            return halted(at, position);
+            return (position, Halt::At(at));
         }
         match leaf(g, n.a, position) {
             Some(q) => {
                 if n.kind == 7 {
-                    return finished(at, q, true);
+                    return (q, Halt::Done(true));
                 }
                 position = q;
             }
             None => {
                 if n.kind == 6 {
-                    return finished(at, position, false);
+                    return (position, Halt::Done(false));
                 }
             }
         }

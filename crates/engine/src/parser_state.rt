@@ -13,7 +13,7 @@ use crate::endings::{
     sequence_end,
 };
 use crate::entry::enter;
-use crate::leaves::{leaf, walk};
+use crate::leaves::{Halt, leaf, walk};
 use crate::node::{ends_at, line_at};
 use crate::rule::{start_rule, tag_node};
 use crate::spine::{descend, ended, goes_right, spine_at};
@@ -90,18 +90,11 @@ fn atomicity_of(b: usize) -> Atomicity
 fn lookahead_in(positive: bool, l: Lookahead) -> Lookahead
     ensures { result ≡ Pest.lookahead_in positive l }
 {
-    if positive {
-        match l {
-            Lookahead::Negative => Lookahead::Negative,
-            Lookahead::Positive => Lookahead::Positive,
-            Lookahead::None => Lookahead::Positive,
-        }
-    } else {
-        match l {
-            Lookahead::Negative => Lookahead::Positive,
-            Lookahead::Positive => Lookahead::Negative,
-            Lookahead::None => Lookahead::Negative,
-        }
+    match (positive, l) {
+        (true, Lookahead::Negative) => Lookahead::Negative,
+        (true, _) => Lookahead::Positive,
+        (false, Lookahead::Negative) => Lookahead::Positive,
+        (false, _) => Lookahead::Negative,
     }
 }
 
@@ -126,8 +119,7 @@ fn terminal(
     ensures { view_end tokens.new scratch.new s.new result ≡ evaluates g.now depth line (view tokens.old scratch.old s.old) }
 {
     let n = line_at(g.nodes, line);
-    let kind = n.kind;
-    match kind {
+    match n.kind {
         15 => stack_pop(g.text, scratch, s, line as u32),
         16 => {
             let e = ends_at(g.nodes, line);
@@ -182,20 +174,19 @@ pub(crate) fn packed_node(
 {
     let mut at = line;
     loop {
-        let p = s.position;
-        let w = walk(g, at, p);
-        let q = w.position;
+        let (q, halt) = walk(g, at, s.position);
         s.position = q;
-        if w.done {
-            return packed(ended(w.good));
+        match halt {
+            Halt::Done(good) => return packed(ended(good)),
+            Halt::At(fork) => {
+                let n = line_at(g.nodes, fork);
+                let e = left_side(g, tokens, scratch, s, depth, fork);
+                if !goes_right(n.kind, e) {
+                    return packed(e);
+                }
+                at = n.b;
+            }
         }
-        at = w.line;
-        let n = line_at(g.nodes, at);
-        let e = left_side(g, tokens, scratch, s, depth, at);
-        if !goes_right(n.kind, e) {
-            return packed(e);
-        }
-        at = n.b;
     }
 }
 
@@ -243,10 +234,9 @@ fn simple(
     ensures { view_end tokens.new scratch.new s.new result ≡ evaluates g.now depth line (view tokens.old scratch.old s.old) }
 {
     let n = line_at(g.nodes, line);
-    let kind = n.kind;
-    match kind {
+    match n.kind {
         8 | 20 => {
-            let at = rule_line(kind, n.a, line);
+            let at = rule_line(n.kind, n.a, line);
             rule(g, tokens, scratch, s, depth, at)
         }
         9 => sequence(g, tokens, scratch, s, depth, line),

@@ -18,8 +18,7 @@ pub(crate) fn match_literal<'a>(
     requires { offset + size ≤ length literals.now }
     ensures { (m : Pest.ParserState) → Pest.moved (match_of result) m ≡ Pest.moved (if insensitive then Position.match_insensitive text.now (take size (drop offset literals.now)) p.0 else Position.match_string text.now (take size (drop offset literals.now)) p.0) m }
 {
-    let end = offset + size;
-    let string = &literals[offset..end];
+    let string = &literals[offset..offset + size];
     if insensitive {
         match_insensitive(text, p, string)
     } else {

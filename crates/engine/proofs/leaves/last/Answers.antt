@@ -3,14 +3,14 @@ use mathlib.Core.Bool.{true, false}
 use native.Mathlib.Omega.{arith}
 use Rattle.reading.proofs.Accepted.{accepted}
 use Rattle.engine.proofs.LineSteps.{whole}
-use Rattle.engine.proofs.LeafSteps.{kind_low, first_onto, walked_halted, walked_done, last_ok, last_err}
+use Rattle.engine.proofs.LeafSteps.{kind_low, first_onto, last_ok, last_err}
 use Rattle.engine.proofs.leaves.last.Goals as goal
 
 pub line_at-n-requires : goal.line_at-n-requires
 line_at-n-requires c = whole _ _ (accepted _ _ c.requires.accepted.0 c.requires.accepted.1) _ c.requires.line
 
 pub returns-then-n-gt5 : goal.returns-then-n-gt5
-returns-then-n-gt5 c = λ depth m f x. walked_halted _ _ _ _ depth _ m _ _ _ c.halted.ensures (first_onto _ _ _ _ depth _ m _ c.requires.line f x)
+returns-then-n-gt5 c = λ depth m f x. first_onto _ _ _ _ depth _ m _ c.requires.line f x
 
 pub leaf-requires-clause-accepted : goal.leaf-requires-clause-accepted
 leaf-requires-clause-accepted c = c.requires.accepted
@@ -19,7 +19,7 @@ pub leaf-requires-clause-line : goal.leaf-requires-clause-line
 leaf-requires-clause-line c = (c.requires.line, kind_low _ _ _ c.line_at-n.ensures (omega (arith, c.if-n-gt5.false)))
 
 pub returns-in-Some : goal.returns-in-Some
-returns-in-Some c = λ depth m f x. walked_done _ _ _ _ depth _ m _ _ _ true c.finished.ensures (last_ok _ _ _ _ (c.leaf.ensures depth m f x) c.in-Some.is)
+returns-in-Some c = λ depth m f x. last_ok _ _ _ _ (c.leaf.ensures depth m f x) c.in-Some.is
 
 pub returns-in-None : goal.returns-in-None
-returns-in-None c = λ depth m f x. walked_done _ _ _ _ depth _ m _ _ _ false c.finished-in-None.ensures (last_err _ _ _ _ x (c.leaf.ensures depth m f x) c.in-None.is)
+returns-in-None c = λ depth m f x. last_err _ _ _ _ x (c.leaf.ensures depth m f x) c.in-None.is

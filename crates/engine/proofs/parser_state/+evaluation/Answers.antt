@@ -15,7 +15,7 @@ use native.Mathlib.Omega.{arith}
 use Rattle.engine.proofs.Climbs.{goes_yes, goes_no, goes_fork}
 use Rattle.engine.proofs.Walks.{slopes, low_line, low_upto, forks_below, line_whole, first_climb, go_ready, climb_in, climb_line, climb_go, climb_stay, climbed, Walking, top_in, top_stay, top_go}
 use Rattle.reading.specs.declared.parser_state.Lookahead.{Lookahead}
-use Rattle.engine.proofs.LeafSteps.{walk_on, answers}
+use Rattle.engine.proofs.LeafSteps.{answers, at_done, at_fork, no_higher}
 use Rattle.engine.specs.Spine.{Fork}
 use Rattle.engine.specs.Leaves.{Walked, answer}
 use Rattle.engine.proofs.Turns.{first_turn, turned, next_turn, repeat_err, repeat_stop, repeat_refused}
@@ -154,86 +154,40 @@ optional-returns t c =
 -- ── packed_node ──
 -- Each turn goes over leaves, and then over one fork to its right side; what is left to evaluate is what was to evaluate (Walks). The ending goes out as its number.
 
-pub packed_node-returns-then-w : goal.packed_node-returns-then-w
-packed_node-returns-then-w t c =
-    let walked :
-    Walked c.args.g.now.nodes.now c.args.g.now.literals.now c.args.g.now.text.now c.args.g.now.room c.args.depth c.loop-w.at (view c.loop-w.tokens c.loop-w.scratch c.loop-w.s) c.walk-w.result =
-    c.walk-w.ensures c.args.depth (view c.loop-w.tokens c.loop-w.scratch c.loop-w.s) c.loop-w.invariant.ready.fit refl in
-    let put :
-    (view c.loop-w.tokens c.loop-w.scratch (set_position c.walk-w.result.position c.loop-w.s)) ≡ Pest.set_position c.walk-w.result.position.0 (view c.loop-w.tokens c.loop-w.scratch c.loop-w.s) =
-    refl in
-    ap (view_end c.loop-w.tokens c.loop-w.scratch (set_position c.walk-w.result.position c.loop-w.s)) (c.packed.ensures.back ∙ c.ended.ensures) ∙ answers c.loop-w.tokens c.loop-w.scratch (set_position c.walk-w.result.position c.loop-w.s) c.walk-w.result.good ∙ ap (answer c.walk-w.result.good) put ∙ walked.ended c.if-w.true ∙ c.loop-w.invariant.runs
+pub packed_node-returns-in-Done : goal.packed_node-returns-in-Done
+packed_node-returns-in-Done t c =
+    let s = set_position c.walk-halt.result.0 c.loop-good.s in
+    ap (view_end c.loop-good.tokens c.loop-good.scratch s) (c.packed.ensures.back ∙ c.ended.ensures)
+    ∙ answers c.loop-good.tokens c.loop-good.scratch s c.in-Done.good
+    ∙ at_done c.args.g.now c.args.depth c.loop-good.at _ _ (c.walk-halt.ensures _ _ c.loop-good.invariant.ready.fit refl) _ c.in-Done.is
+    ∙ c.loop-good.invariant.runs
 
 pub packed_node-line_at-n-requires : goal.packed_node-line_at-n-requires
 packed_node-line_at-n-requires t c =
-    let walked :
-    Walked c.args.g.now.nodes.now c.args.g.now.literals.now c.args.g.now.text.now c.args.g.now.room c.args.depth c.loop-w.at (view c.loop-w.tokens c.loop-w.scratch c.loop-w.s) c.walk-w.result =
-    c.walk-w.ensures c.args.depth (view c.loop-w.tokens c.loop-w.scratch c.loop-w.s) c.loop-w.invariant.ready.fit refl in
-    let put :
-    (view c.loop-w.tokens c.loop-w.scratch (set_position c.walk-w.result.position c.loop-w.s)) ≡ Pest.set_position c.walk-w.result.position.0 (view c.loop-w.tokens c.loop-w.scratch c.loop-w.s) =
-    refl in
-    let on :
-    Walking c.args.g.now.nodes.now c.args.g.now.literals.now c.args.g.now.text.now c.args.g.now.room c.args.depth c.args.line c.args.tokens.now c.args.scratch.now (view c.args.tokens.now c.args.scratch.now c.args.s.now) c.loop-w.tokens c.loop-w.scratch c.walk-w.result.line (view c.loop-w.tokens c.loop-w.scratch (set_position c.walk-w.result.position c.loop-w.s)) =
-    subst (λ (m : Pest.ParserState). Walking c.args.g.now.nodes.now c.args.g.now.literals.now c.args.g.now.text.now c.args.g.now.room c.args.depth c.args.line c.args.tokens.now c.args.scratch.now (view c.args.tokens.now c.args.scratch.now c.args.s.now) c.loop-w.tokens c.loop-w.scratch c.walk-w.result.line m) (sym put) (walk_on _ _ _ _ _ _ _ _ _ _ _ _ _ c.loop-w.invariant _ _ (walked.going c.if-w.false)) in
+    let on = at_fork c.args.g.now c.args.depth c.loop-good.at _ _ (c.walk-halt.ensures _ _ c.loop-good.invariant.ready.fit refl) _ c.in-At.is c.loop-good.invariant in
     whole _ _ (tests _ _ _ _ c.requires.ready) _ on.here
 
 pub packed_node-left_side-e-requires : goal.packed_node-left_side-e-requires
 packed_node-left_side-e-requires t c =
-    let walked :
-    Walked c.args.g.now.nodes.now c.args.g.now.literals.now c.args.g.now.text.now c.args.g.now.room c.args.depth c.loop-w.at (view c.loop-w.tokens c.loop-w.scratch c.loop-w.s) c.walk-w.result =
-    c.walk-w.ensures c.args.depth (view c.loop-w.tokens c.loop-w.scratch c.loop-w.s) c.loop-w.invariant.ready.fit refl in
-    let put :
-    (view c.loop-w.tokens c.loop-w.scratch (set_position c.walk-w.result.position c.loop-w.s)) ≡ Pest.set_position c.walk-w.result.position.0 (view c.loop-w.tokens c.loop-w.scratch c.loop-w.s) =
-    refl in
-    let on :
-    Walking c.args.g.now.nodes.now c.args.g.now.literals.now c.args.g.now.text.now c.args.g.now.room c.args.depth c.args.line c.args.tokens.now c.args.scratch.now (view c.args.tokens.now c.args.scratch.now c.args.s.now) c.loop-w.tokens c.loop-w.scratch c.walk-w.result.line (view c.loop-w.tokens c.loop-w.scratch (set_position c.walk-w.result.position c.loop-w.s)) =
-    subst (λ (m : Pest.ParserState). Walking c.args.g.now.nodes.now c.args.g.now.literals.now c.args.g.now.text.now c.args.g.now.room c.args.depth c.args.line c.args.tokens.now c.args.scratch.now (view c.args.tokens.now c.args.scratch.now c.args.s.now) c.loop-w.tokens c.loop-w.scratch c.walk-w.result.line m) (sym put) (walk_on _ _ _ _ _ _ _ _ _ _ _ _ _ c.loop-w.invariant _ _ (walked.going c.if-w.false)) in
-    (omega (arith, c.decreases, on.upto), ((on.ready), on.here))
+    let on = at_fork c.args.g.now c.args.depth c.loop-good.at _ _ (c.walk-halt.ensures _ _ c.loop-good.invariant.ready.fit refl) _ c.in-At.is c.loop-good.invariant in
+    (omega (arith, c.decreases, on.upto), (on.ready, on.here))
 
 pub packed_node-returns-then-not-goes_right : goal.packed_node-returns-then-not-goes_right
 packed_node-returns-then-not-goes_right t c =
-    let walked :
-    Walked c.args.g.now.nodes.now c.args.g.now.literals.now c.args.g.now.text.now c.args.g.now.room c.args.depth c.loop-w.at (view c.loop-w.tokens c.loop-w.scratch c.loop-w.s) c.walk-w.result =
-    c.walk-w.ensures c.args.depth (view c.loop-w.tokens c.loop-w.scratch c.loop-w.s) c.loop-w.invariant.ready.fit refl in
-    let put :
-    (view c.loop-w.tokens c.loop-w.scratch (set_position c.walk-w.result.position c.loop-w.s)) ≡ Pest.set_position c.walk-w.result.position.0 (view c.loop-w.tokens c.loop-w.scratch c.loop-w.s) =
-    refl in
-    let on :
-    Walking c.args.g.now.nodes.now c.args.g.now.literals.now c.args.g.now.text.now c.args.g.now.room c.args.depth c.args.line c.args.tokens.now c.args.scratch.now (view c.args.tokens.now c.args.scratch.now c.args.s.now) c.loop-w.tokens c.loop-w.scratch c.walk-w.result.line (view c.loop-w.tokens c.loop-w.scratch (set_position c.walk-w.result.position c.loop-w.s)) =
-    subst (λ (m : Pest.ParserState). Walking c.args.g.now.nodes.now c.args.g.now.literals.now c.args.g.now.text.now c.args.g.now.room c.args.depth c.args.line c.args.tokens.now c.args.scratch.now (view c.args.tokens.now c.args.scratch.now c.args.s.now) c.loop-w.tokens c.loop-w.scratch c.walk-w.result.line m) (sym put) (walk_on _ _ _ _ _ _ _ _ _ _ _ _ _ c.loop-w.invariant _ _ (walked.going c.if-w.false)) in
+    let on = at_fork c.args.g.now c.args.depth c.loop-good.at _ _ (c.walk-halt.ensures _ _ c.loop-good.invariant.ready.fit refl) _ c.in-At.is c.loop-good.invariant in
     told _ _ _ _ _ _ (top_stay _ _ _ _ _ _ _ _ _ on.ready on.here _ c.left_side-e.ensures _ c.line_at-n.ensures (goes_no _ _ _ _ _ (sym c.goes_right.ensures ∙ refused_test c.goes_right.result (ap not c.if-not-goes_right.true))) ∙ on.runs) (sym c.packed-then-not-goes_right.ensures.back)
 
-pub packed_node-loop-w-smaller : goal.packed_node-loop-w-smaller
-packed_node-loop-w-smaller t c =
-    let walked :
-    Walked c.args.g.now.nodes.now c.args.g.now.literals.now c.args.g.now.text.now c.args.g.now.room c.args.depth c.loop-w.at (view c.loop-w.tokens c.loop-w.scratch c.loop-w.s) c.walk-w.result =
-    c.walk-w.ensures c.args.depth (view c.loop-w.tokens c.loop-w.scratch c.loop-w.s) c.loop-w.invariant.ready.fit refl in
-    let put :
-    (view c.loop-w.tokens c.loop-w.scratch (set_position c.walk-w.result.position c.loop-w.s)) ≡ Pest.set_position c.walk-w.result.position.0 (view c.loop-w.tokens c.loop-w.scratch c.loop-w.s) =
-    refl in
-    let on :
-    Walking c.args.g.now.nodes.now c.args.g.now.literals.now c.args.g.now.text.now c.args.g.now.room c.args.depth c.args.line c.args.tokens.now c.args.scratch.now (view c.args.tokens.now c.args.scratch.now c.args.s.now) c.loop-w.tokens c.loop-w.scratch c.walk-w.result.line (view c.loop-w.tokens c.loop-w.scratch (set_position c.walk-w.result.position c.loop-w.s)) =
-    subst (λ (m : Pest.ParserState). Walking c.args.g.now.nodes.now c.args.g.now.literals.now c.args.g.now.text.now c.args.g.now.room c.args.depth c.args.line c.args.tokens.now c.args.scratch.now (view c.args.tokens.now c.args.scratch.now c.args.s.now) c.loop-w.tokens c.loop-w.scratch c.walk-w.result.line m) (sym put) (walk_on _ _ _ _ _ _ _ _ _ _ _ _ _ c.loop-w.invariant _ _ (walked.going c.if-w.false)) in
-    let is_fork :
-    Fork (kind_at c.args.g.now.nodes.now c.walk-w.result.line) =
-    fork_at _ _ _ c.line_at-n.ensures (goes_fork _ _ (sym c.goes_right.ensures ∙ passed_test c.goes_right.result (ap not c.if-not-goes_right.false))) in
-    omega (arith, (top_in _ _ _ _ _ _ _ _ _ on.ready on.here is_fork c.left_side-e.new.tokens c.left_side-e.new.scratch c.left_side-e.auto.tokens c.left_side-e.auto.scratch _ c.left_side-e.ensures _ c.line_at-n.ensures).1, (walked.going c.if-w.false).upto)
+pub packed_node-loop-good-smaller : goal.packed_node-loop-good-smaller
+packed_node-loop-good-smaller t c =
+    let on = at_fork c.args.g.now c.args.depth c.loop-good.at _ _ (c.walk-halt.ensures _ _ c.loop-good.invariant.ready.fit refl) _ c.in-At.is c.loop-good.invariant in
+    let is_fork = fork_at _ _ _ c.line_at-n.ensures (goes_fork _ _ (sym c.goes_right.ensures ∙ passed_test c.goes_right.result (ap not c.if-not-goes_right.false))) in
+    omega (arith, (top_in _ _ _ _ _ _ _ _ _ on.ready on.here is_fork c.left_side-e.new.tokens c.left_side-e.new.scratch c.left_side-e.auto.tokens c.left_side-e.auto.scratch _ c.left_side-e.ensures _ c.line_at-n.ensures).1, no_higher c.args.g.now c.args.depth c.loop-good.at _ _ (c.walk-halt.ensures _ _ c.loop-good.invariant.ready.fit refl) _ c.in-At.is)
 
-pub packed_node-loop-w-preserved : goal.packed_node-loop-w-preserved
-packed_node-loop-w-preserved t c =
-    let walked :
-    Walked c.args.g.now.nodes.now c.args.g.now.literals.now c.args.g.now.text.now c.args.g.now.room c.args.depth c.loop-w.at (view c.loop-w.tokens c.loop-w.scratch c.loop-w.s) c.walk-w.result =
-    c.walk-w.ensures c.args.depth (view c.loop-w.tokens c.loop-w.scratch c.loop-w.s) c.loop-w.invariant.ready.fit refl in
-    let put :
-    (view c.loop-w.tokens c.loop-w.scratch (set_position c.walk-w.result.position c.loop-w.s)) ≡ Pest.set_position c.walk-w.result.position.0 (view c.loop-w.tokens c.loop-w.scratch c.loop-w.s) =
-    refl in
-    let on :
-    Walking c.args.g.now.nodes.now c.args.g.now.literals.now c.args.g.now.text.now c.args.g.now.room c.args.depth c.args.line c.args.tokens.now c.args.scratch.now (view c.args.tokens.now c.args.scratch.now c.args.s.now) c.loop-w.tokens c.loop-w.scratch c.walk-w.result.line (view c.loop-w.tokens c.loop-w.scratch (set_position c.walk-w.result.position c.loop-w.s)) =
-    subst (λ (m : Pest.ParserState). Walking c.args.g.now.nodes.now c.args.g.now.literals.now c.args.g.now.text.now c.args.g.now.room c.args.depth c.args.line c.args.tokens.now c.args.scratch.now (view c.args.tokens.now c.args.scratch.now c.args.s.now) c.loop-w.tokens c.loop-w.scratch c.walk-w.result.line m) (sym put) (walk_on _ _ _ _ _ _ _ _ _ _ _ _ _ c.loop-w.invariant _ _ (walked.going c.if-w.false)) in
-    let is_fork :
-    Fork (kind_at c.args.g.now.nodes.now c.walk-w.result.line) =
-    fork_at _ _ _ c.line_at-n.ensures (goes_fork _ _ (sym c.goes_right.ensures ∙ passed_test c.goes_right.result (ap not c.if-not-goes_right.false))) in
-    (top_go _ _ _ _ _ _ _ _ _ on.ready on.here is_fork c.left_side-e.new.tokens c.left_side-e.new.scratch c.left_side-e.auto.tokens c.left_side-e.auto.scratch _ c.left_side-e.ensures _ c.line_at-n.ensures _ _ _ _ on _ (goes_yes _ _ _ _ _ (sym c.goes_right.ensures ∙ passed_test c.goes_right.result (ap not c.if-not-goes_right.false))))
+pub packed_node-loop-good-preserved : goal.packed_node-loop-good-preserved
+packed_node-loop-good-preserved t c =
+    let on = at_fork c.args.g.now c.args.depth c.loop-good.at _ _ (c.walk-halt.ensures _ _ c.loop-good.invariant.ready.fit refl) _ c.in-At.is c.loop-good.invariant in
+    let is_fork = fork_at _ _ _ c.line_at-n.ensures (goes_fork _ _ (sym c.goes_right.ensures ∙ passed_test c.goes_right.result (ap not c.if-not-goes_right.false))) in
+    top_go _ _ _ _ _ _ _ _ _ on.ready on.here is_fork c.left_side-e.new.tokens c.left_side-e.new.scratch c.left_side-e.auto.tokens c.left_side-e.auto.scratch _ c.left_side-e.ensures _ c.line_at-n.ensures _ _ _ _ on _ (goes_yes _ _ _ _ _ (sym c.goes_right.ensures ∙ passed_test c.goes_right.result (ap not c.if-not-goes_right.false)))
 
 -- ── repeat ──
 -- Each turn is the body once more: what is left to run is what was to run (Turns). The body moves on Ok, so that the turns end.

@@ -50,12 +50,12 @@ invariant-left_side-loop-i l =
 abbrev pub decreases-left_side-loop-i : goal.decreases-left_side-loop-i
 decreases-left_side-loop-i l = l.i
 
-abbrev pub invariant-packed_node-loop-w : goal.invariant-packed_node-loop-w
-invariant-packed_node-loop-w l =
+abbrev pub invariant-packed_node-loop-good : goal.invariant-packed_node-loop-good
+invariant-packed_node-loop-good l =
     Walking l.g.nodes.now l.g.literals.now l.g.text.now l.g.room l.depth l.line l.initial.tokens l.initial.scratch (view l.initial.tokens l.initial.scratch l.initial.s) l.tokens l.scratch l.at (view l.tokens l.scratch l.s)
 
-abbrev pub decreases-packed_node-loop-w : goal.decreases-packed_node-loop-w
-decreases-packed_node-loop-w l = l.at
+abbrev pub decreases-packed_node-loop-good : goal.decreases-packed_node-loop-good
+decreases-packed_node-loop-good l = l.at
 
 abbrev pub invariant-repeat-loop-s : goal.invariant-repeat-loop-s
 invariant-repeat-loop-s l =
