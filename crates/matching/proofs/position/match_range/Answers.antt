@@ -10,13 +10,16 @@ use Rattle.matching.proofs.Steps.{inside, char_fails, char_moves}
 use Rattle.matching.proofs.position.match_range.Goals as goal
 
 pub returns-in_err-c : goal.returns-in_err-c
-returns-in_err-c c = c.from_residual.ensures ∙ sym (ap matched (char_fails c.args.input.now c.args.pos.0 (sym c.in_err-c.ensures) (within c.args.low c.args.high)))
+returns-in_err-c c =
+    c.from_residual.ensures ∙ sym (ap matched (char_fails c.args.input.now c.args.pos.0 (sym c.in_err-c.ensures) (within c.args.low c.args.high)))
 
 pub overflow_add-result : goal.overflow_add-result
 overflow_add-result c = omega (arith, inside c.args.input.now c.args.pos.0 c.in_ok-c.c (sym c.in_ok-c.ensures))
 
 pub returns-then-c-high : goal.returns-then-c-high
-returns-then-c-high c = sym (ap matched (rw (within_is c.args.low c.args.high c.in_ok-c.c.value c.if-low-c.true c.if-c-high.true) at (char_moves c.args.input.now c.args.pos.0 c.in_ok-c.c (sym c.in_ok-c.ensures) (within c.args.low c.args.high))))
+returns-then-c-high c =
+    let w = within_is c.args.low c.args.high c.in_ok-c.c.value c.if-low-c.true c.if-c-high.true in
+    sym (ap matched (rw w at (char_moves c.args.input.now c.args.pos.0 c.in_ok-c.c (sym c.in_ok-c.ensures) (within c.args.low c.args.high))))
 
 pub returns-else-low-c : goal.returns-else-low-c
 returns-else-low-c c =
