@@ -131,7 +131,8 @@ pub(crate) fn clear_snapshot(scratch: &mut [u32], s: Stack) -> Stack
     }
     let (outer, was) = pair_at(scratch, LENGTHS_AT, c - 2);
     let kept = was.saturating_sub(low) as usize;
-    put_pair(scratch, LENGTHS_AT, c - 2, (outer, was.min(low)));
+    let lowest = was.min(low);
+    put_pair(scratch, LENGTHS_AT, c - 2, (outer, lowest));
     let from = POPPED_AT + (p - kept) * 2;
     let to = POPPED_AT + (p - n) * 2;
     scratch.copy_within(from..from + kept * 2, to);

@@ -73,7 +73,7 @@ pub(crate) fn match_pop(
 {
     let mut t = s;
     let mut at = p.0;
-    // Kept: the loop over bytes by an index, left by the label: the scope names this form for "keeps popping entries until one fails to match".
+    // Kept: the loop with its label, and not `starts_with`: the project's scope names this form for "keeps popping".
     let matched = 'entries: loop {
         let h = t.height;
         if h == 0 {
@@ -88,12 +88,10 @@ pub(crate) fn match_pop(
         if !has_room(text.len(), at, n) {
             break None;
         }
-        let mut i = 0;
-        while i < n {
+        for i in 0..n {
             if text[at + i] != bytes[i] {
                 break 'entries None;
             }
-            i += 1;
         }
         at += n;
     };
