@@ -181,7 +181,7 @@ pub packed_node-loop-good-smaller : goal.packed_node-loop-good-smaller
 packed_node-loop-good-smaller t c =
     let on = at_fork c.args.g.now c.args.depth c.loop-good.at _ _ (c.walk-halt.ensures _ _ c.loop-good.invariant.ready.fit refl) _ c.in-At.is c.loop-good.invariant in
     let is_fork = fork_at _ _ _ c.line_at-n.ensures (goes_fork _ _ (sym c.goes_right.ensures ∙ passed_test c.goes_right.result (ap not c.if-not-goes_right.false))) in
-    omega (arith, (top_in _ _ _ _ _ _ _ _ _ on.ready on.here is_fork c.left_side-e.new.tokens c.left_side-e.new.scratch c.left_side-e.auto.tokens c.left_side-e.auto.scratch _ c.left_side-e.ensures _ c.line_at-n.ensures).1, no_higher c.args.g.now c.args.depth c.loop-good.at _ _ (c.walk-halt.ensures _ _ c.loop-good.invariant.ready.fit refl) _ c.in-At.is)
+    omega (arith, (top_in _ _ _ _ _ _ _ _ _ on.ready on.here is_fork c.left_side-e.new.tokens c.left_side-e.new.scratch c.left_side-e.auto.tokens c.left_side-e.auto.scratch _ c.left_side-e.ensures _ c.line_at-n.ensures).1, no_higher c.args.g.now c.args.depth c.loop-good.at (view c.loop-good.tokens c.loop-good.scratch c.loop-good.s) _ (c.walk-halt.ensures _ _ c.loop-good.invariant.ready.fit refl) _ c.in-At.is)
 
 pub packed_node-loop-good-preserved : goal.packed_node-loop-good-preserved
 packed_node-loop-good-preserved t c =
