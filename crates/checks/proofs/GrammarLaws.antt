@@ -55,8 +55,8 @@ module _ (x : List ℕ) (n : ℕ) where
 
 -- ── The rows ──
 -- The table over the tests that its rows are made of.
-abbrev pub rows_of : (literal scalar_a scalar_b count_a nil_a nil_b nil_c lower_a lower_b name_a called positive atomicity with_end without : Bool)
-    → List Bool
+abbrev pub rows_of : (literal scalar_a scalar_b count_a nil_a nil_b nil_c : Bool)
+    → (lower_a lower_b name_a called positive atomicity with_end without : Bool) → List Bool
 rows_of literal scalar_a scalar_b count_a nil_a nil_b nil_c lower_a lower_b name_a called positive atomicity with_end without =
     let two : Bool = lower_a && lower_b && nil_c in
     let one : Bool = lower_a && nil_b && nil_c in
@@ -90,7 +90,8 @@ module _ (ns : List ℤ) (literals : List ℕ) (l : ℕ) {kind : ℕ} {a b c : O
       ((ap₂ (part_in literals) ea eb ∙ part_is literals za zb) i)
       ((ap scalar_in ea ∙ scalar_is za) i) ((ap scalar_in eb ∙ scalar_is zb) i) ((ap is_some ea ∙ count_is za) i)
       (range_of za ea 0 0 i) (range_of zb eb 0 0 i) (range_of zc ec 0 0 i)
-      (range_of za ea 1 (l - 1) i) (range_of zb eb 1 (l - 1) i) (range_of za ea 1 65535 i) ((ap (rule_in ns) ea ∙ rule_is ns literals za) i)
+      (range_of za ea 1 (l - 1) i) (range_of zb eb 1 (l - 1) i) (range_of za ea 1 65535 i)
+      ((ap (rule_in ns) ea ∙ rule_is ns literals za) i)
       (range_of zb eb 0 1 i) (range_of zb eb 0 2 i) (range_of zc ec 0 1 i) (range_of zc ec 2 3 i)) false (pos (ek i))
 
 -- ── A line ──

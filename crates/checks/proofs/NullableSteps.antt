@@ -30,7 +30,8 @@ take_replicate zero m h = refl
 take_replicate (suc n) zero h = absurd (omega arith)
 take_replicate (suc n) (suc m) h = ap (λ (l : List Bool). false ∷ l) (take_replicate n m (omega arith))
 
-pub part_false : (n : ℕ) (f : List Bool) → f ≡ replicate (length f) false → n ≤ length f → take n f ≡ replicate (length (take n f)) false
+pub part_false : (n : ℕ) (f : List Bool)
+    → f ≡ replicate (length f) false → n ≤ length f → take n f ≡ replicate (length (take n f)) false
 part_false n f e h =
     ap (take n) e ∙ take_replicate n (length f) h ∙ ap (λ (k : ℕ). replicate k false) (part_length n f h)
 

@@ -32,9 +32,11 @@ Narrow (Stop (TokensFull line)) = line < 4294967296
 Narrow (Stop (StackFull line)) = line < 4294967296
 Narrow (Stop (AttemptsFull line)) = line < 4294967296
 
-stop_back : (n k line : ℕ) (c : Cause) → n ≡ line * 4 + (2 + k) → k < 4 → line < 4294967296 → c ≡ cause_of k line → unpacked n ≡ Stop c
+stop_back : (n k line : ℕ) (c : Cause)
+    → n ≡ line * 4 + (2 + k) → k < 4 → line < 4294967296 → c ≡ cause_of k line → unpacked n ≡ Stop c
 stop_back n k line c e h l q =
-    sym (unpacked_stop n c (λ f. omega arith) (λ f. omega arith) (q ∙ ap (λ (x : ℕ). cause_of x line) number ∙ ap (cause_of ((n - 2) % 4)) place))
+    sym (unpacked_stop n c (λ f. omega arith) (λ f. omega arith)
+    (q ∙ ap (λ (x : ℕ). cause_of x line) number ∙ ap (cause_of ((n - 2) % 4)) place))
   where
     number : k ≡ (n - 2) % 4
     number = omega arith

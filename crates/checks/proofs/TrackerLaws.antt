@@ -18,19 +18,19 @@ pest_entered (Err t) = record { answer = false; tracker = tracker_of t }
 abbrev tracker : (current limit : ℕ) → Option LimitKind → CallLimitTracker
 tracker n l r = record { current = n; limit = l; reached = r }
 
--- An entry at the tracker t, by the reading, as pest answers it.
-abbrev read : (room counted : Bool) → CallLimitTracker → Pest.Entered
-read room counted t = pest_entered (admitted t (enter room counted (reading_of t)))
+-- An entry at the tracker t, by the reading, is answered as by pest.
+abbrev Same : (room counted : Bool) → CallLimitTracker → Type 0
+Same room counted t = pest_entered (admitted t (enter room counted (reading_of t))) ≡ Pest.enter room counted (tracker_of t)
 
-pest_enters : (room counted : Bool) (t : CallLimitTracker) → read room counted t ≡ Pest.enter room counted (tracker_of t)
+pest_enters : (room counted : Bool) (t : CallLimitTracker) → Same room counted t
 pest_enters room counted t = go t.current t.limit t.reached room counted
   where
-    call : (n l : ℕ) (room : Bool) (b : Bool) → leb (suc l) n ≡ b → read room true (tracker n (suc l) None) ≡ Pest.enter room true (tracker_of (tracker n (suc l) None))
+    call : (n l : ℕ) (room : Bool) (b : Bool) → leb (suc l) n ≡ b → Same room true (tracker n (suc l) None)
     call n l room true e = rw e
     call n l true false e = rw e
     call n l false false e = rw e
 
-    go : (n l : ℕ) (r : Option LimitKind) (room counted : Bool) → read room counted (tracker n l r) ≡ Pest.enter room counted (tracker_of (tracker n l r))
+    go : (n l : ℕ) (r : Option LimitKind) (room counted : Bool) → Same room counted (tracker n l r)
     go n zero (Some k) room counted = refl
     go n (suc l) (Some k) room counted = refl
     go n zero None true true = refl

@@ -101,7 +101,7 @@ fn literal_fits(literals: &[u8], a: Option<usize>, b: Option<usize>) -> bool
     }
 }
 
-// Whether a field names a line of kind 8.
+// Whether a field names a line of kind 8: a rule.
 fn calls_rule(nodes: &[i32], a: Option<usize>) -> bool
     ensures { result ≡ rule_in nodes.now a }
 {
@@ -111,6 +111,7 @@ fn calls_rule(nodes: &[i32], a: Option<usize>) -> bool
     }
 }
 
+// Whether a field is 0, as those that the table does not name are.
 fn is_nil(field: Option<usize>) -> bool
     ensures { result ≡ in_range 0 0 field }
 {
@@ -133,7 +134,7 @@ fn is_name(field: Option<usize>) -> bool
 }
 
 // Whether the fields of the line fit its kind, by the table's rows.
-// Kept: a table, and no `match` on the kind: tried, and each arm, and each side of each `&&` in it, asks for an answer of its own.
+// Kept: a table, and no `match` on the kind: nullable.rt says why, and here twice as many answers would be asked for.
 fn fields_fit(nodes: &[i32], literals: &[u8], line: usize) -> bool
     requires line_inside { (1 ≤ line) × (line * 4 ≤ length nodes.now) }
     requires literals_utf8 { is_utf8 literals.now ≡ true }

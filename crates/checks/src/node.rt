@@ -17,8 +17,7 @@ pub(crate) fn field_at(nodes: &[i32], i: usize) -> Option<usize>
     requires { i < length nodes.now }
     ensures { result ≡ field_of (get_or nodes.now i (pos 0)) }
 {
-    let x = nodes[i];
-    if x < 0 { None } else { Some(x as usize) }
+    usize::try_from(nodes[i]).ok()
 }
 
 // A field as a natural number, which a negative one is not: it reads 0.

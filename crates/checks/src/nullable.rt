@@ -14,7 +14,7 @@ fn flag_of(flags: &[bool], line: usize) -> bool
 }
 
 // Whether the line may stand still, if the flagged lines may.
-// Kept: a table, as in grammar.rt.
+// Kept: a table, and no `match` on the kind: tried, and each arm, and each side of each `&&` in it, asked for an answer of its own.
 fn line_stands_still(nodes: &[i32], flags: &[bool], line: usize) -> bool
     requires { (1 ≤ line) × (line * 4 ≤ length nodes.now) }
     ensures { result ≡ stands_still (flag flags.now) (node_at nodes.now line) }

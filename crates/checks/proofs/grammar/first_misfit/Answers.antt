@@ -13,4 +13,5 @@ pub returns : goal.returns
 returns c =
     let test : ℕ → Bool = line_misfits c.args.nodes.now c.args.literals.now in
     found_first test c.args.count c.find.result
-    (first_from_Range _ _ _ _ (λ l. test l ≡ true) (λ l. test l ≡ false) c.find.ensures.ran (λ x q k. search (rules, tests)) (λ x q k. search (rules, tests)))
+    (first_from_Range _ _ _ _ (λ l. test l ≡ true) (λ l. test l ≡ false) c.find.ensures.ran
+    (λ x q k. search (rules, tests)) (λ x q k. search (rules, tests)))

@@ -14,4 +14,5 @@ pub returns : goal.returns
 returns c =
     let test : ℕ → Bool = flagged_repeat c.args.nodes.now c.args.flags.now in
     found_first test (length c.args.flags.now) c.find.result
-    (first_from_Range _ _ _ _ (λ l. test l ≡ true) (λ l. test l ≡ false) c.find.ensures.ran (λ x q k. search (rules, tests)) (λ x q k. search (rules, tests)))
+    (first_from_Range _ _ _ _ (λ l. test l ≡ true) (λ l. test l ≡ false) c.find.ensures.ran
+    (λ x q k. search (rules, tests)) (λ x q k. search (rules, tests)))

@@ -5,4 +5,5 @@ use Rattle.checks.proofs.nullable.line_stands_still.Goals as goal
 
 pub returns : goal.returns
 returns c =
-    cc (line_rows (flag c.args.flags.now) c.args.nodes.now c.args.line c.kind_at.ensures c.number_at-field_a.ensures c.number_at-field_b.ensures)
+    cc (line_rows (flag c.args.flags.now) c.args.nodes.now c.args.line c.kind_at.ensures
+    c.number_at-field_a.ensures c.number_at-field_b.ensures)
