@@ -4,7 +4,7 @@ use Prim.Native.Nat.{ℕ, zero, suc, ◌+◌, ◌-◌, ◌*◌, ◌/◌, ◌%◌
 use native.Mathlib.Omega.{arith}
 use native.Mathlib.Numerals.{add-one}
 use mathlib.Core.Path.{◌≡◌, refl, sym, ap, ◌∙◌}
-use mathlib.Core.Bool.{false, cond}
+use mathlib.Core.Bool.{false}
 use mathlib.Core.List.{List, [], ◌∷◌, ◌++◌, append_assoc, append-nil}
 use native.Mathlib.Nat.{pow-suc}
 use Rattle.std.specs.Prelude.{Option, None, Some, IfNone, IfSome, unwrap_or, ◌^◌}
@@ -12,10 +12,9 @@ use lib.Dec.{ltb}
 use lib.ListN.{length, get_or, take, drop, set, replicate, length-append, length-drop, length-set, length-replicate, take-append-drop}
 use lib.Seq.{length-take-le, drop-drop, sets, sets-eq, length-sets, set_comm, take-suc, take_all}
 use borrow.Author.Tests.{lt-ltb, le-ltb, le-leb, lt-leb, eq-eqb, ne_eqb}
-use Rattle.engine.specs.declared.state.Outcome.{Outcome}
 use Rattle.sheet.specs.Area.{over}
 use Rattle.sheet.specs.Numeral.{numeral, justified}
-use Rattle.sheet.specs.Listing.{six, fields, line_text, token_line, rule_line, later_line, later_count, whole, Written}
+use Rattle.sheet.specs.Listing.{six, fields, line_text, token_line, rule_line, later_line, whole, Written}
 use Rattle.sheet.proofs.NumeralLaws.{numeral_digit, numeral_tens, leads}
 use Rattle.sheet.proofs.FieldLaws.{pow_some}
 use Rattle.sheet.proofs.SheetLaws.{over_more, over_none, over_length}
