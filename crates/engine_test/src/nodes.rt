@@ -6,9 +6,8 @@ use std::alloc::{AllocError, Global};
 // The lines that one stands for.
 fn put_lines(nodes: &mut Vec<i32>, line: &str) -> Result<(), AllocError> {
     let mut numbers = line.split(',');
-    let [kind, a, b, c, times] = [0i32, 0, 0, 0, 1].map(|other| number(numbers.next()).unwrap_or(
-        other,
-    ));
+    let next_or = |other: i32| number(numbers.next()).unwrap_or(other);
+    let [kind, a, b, c, times] = [0, 0, 0, 0, 1].map(next_or);
     let b_goes_up = numbers.next().is_some();
     for i in 0..times {
         let b = if b_goes_up { b.saturating_add(i) } else { b };

@@ -36,7 +36,8 @@ pub extern "C" fn parser_core_run<'a>(
     report: &mut [u32],
     scratch: &mut [u32],
 ) -> ParserCoreOutcome
-    ensures { Ran (input nodes.now literals.now text.now depth_limit call_limit tokens.old report.old (length scratch.old)) (outcome_of (returned result) tokens.new report.new) scratch.old scratch.new }
+    ensures { Ran (input nodes.now literals.now text.now depth_limit call_limit tokens.old report.old (length scratch.old))
+        (outcome_of (returned result) tokens.new report.new) scratch.old scratch.new }
 {
     run(
         nodes,

@@ -23,7 +23,8 @@ pub extern "C" fn parser_core_run<'a>(
     report: &mut [u32],
     scratch: &mut [u32],
 ) -> ParserCoreOutcome
-    ensures { Ran (input nodes.now literals.now text.now depth_limit call_limit tokens.old report.old (length scratch.old)) (outcome_of (returned result) tokens.new report.new) scratch.old scratch.new }
+    ensures { Ran (input nodes.now literals.now text.now depth_limit call_limit tokens.old report.old (length scratch.old))
+        (outcome_of (returned result) tokens.new report.new) scratch.old scratch.new }
 {
     parser_core::parser_core_run(
         nodes,
@@ -44,8 +45,8 @@ pub extern "C" fn parser_core_read_sheet(sheet: &[u8], nodes: &mut [i32]) -> Par
     parser_core::parser_core_read_sheet(sheet, nodes)
 }
 
-// Calls the export as C does, by position: the arguments in the order of rust/parser-core/include/parser_core.h. A contract goes by names, so
-// an export whose names change places is refused here.
+// Calls the export as C does, by position: the arguments in the order of rust/parser-core/include/parser_core.h. A contract goes by names,
+// so an export whose names change places is refused here.
 fn run_by_position<'a>(
     nodes: &[i32],
     literals: &'a [u8],
@@ -56,7 +57,8 @@ fn run_by_position<'a>(
     report: &mut [u32],
     scratch: &mut [u32],
 ) -> ParserCoreOutcome
-    ensures { Ran (input nodes.now literals.now text.now depth_limit call_limit tokens.old report.old (length scratch.old)) (outcome_of (returned result) tokens.new report.new) scratch.old scratch.new }
+    ensures { Ran (input nodes.now literals.now text.now depth_limit call_limit tokens.old report.old (length scratch.old))
+        (outcome_of (returned result) tokens.new report.new) scratch.old scratch.new }
 {
     parser_core_run(
         nodes,

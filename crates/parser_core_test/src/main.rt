@@ -46,7 +46,8 @@ fn run_by_position<'a>(
     report: &mut [u32],
     scratch: &mut [u32],
 ) -> ParserCoreOutcome
-    ensures { Ran (input nodes.now literals.now text.now depth_limit call_limit tokens.old report.old (length scratch.old)) (outcome_of (returned result) tokens.new report.new) scratch.old scratch.new }
+    ensures { Ran (input nodes.now literals.now text.now depth_limit call_limit tokens.old report.old (length scratch.old))
+        (outcome_of (returned result) tokens.new report.new) scratch.old scratch.new }
 {
     parser_core_run(
         nodes,

@@ -75,11 +75,8 @@ impl Head {
         let (mut tokens, mut report) = match self.numbers.number {
             0 => (lists, none),
             10 => {
-                let mut rejected = [self.numbers.place, self.positives, self.negatives].to_vec(
-                    alloc,
-                )?;
-                rejected.extend_from_slice(lists.as_slice())?;
-                (none, rejected)
+                let counts = [self.numbers.place, self.positives, self.negatives];
+                (none, [counts.as_slice(), lists.as_slice()].concat(alloc)?)
             }
             _ => (none, Vec::new(alloc)),
         };
