@@ -4,14 +4,13 @@ ghost use Rattle.reading.specs.Ending as Model;
 ghost use Rattle.reading.specs.Reading.{Setting};
 ghost use Rattle.reading.specs.Pest as Pest;
 ghost use Rattle.engine.specs.Areas.{view, view_end};
-ghost use Rattle.engine.specs.Ends.{EndReady, PushEndReady, RuleOkReady, RuleEndReady, atomic_back, looking};
+ghost use Rattle.engine.specs.Ends.{EndReady, PushEndReady, RuleOkReady, RuleEndReady, atomic_back, looking, rule_ended};
 ghost use Rattle.engine.specs.Rule.{Tracking};
 ghost use Rattle.engine.specs.StackReady.{StateReady};
 
-use crate::attempts::Noted;
 use crate::entry::limit_reached;
 use crate::parser_state::ParserState;
-use crate::rule::{close_rule, drop_rule, is_negative, track_rule};
+use crate::rule::{Begun, close_rule, drop_rule, track_rule};
 use crate::stack_state::{checkpoint_ok, restored, stack_push_end};
 use matching::position::{BytePosition, TokenIndex};
 use reading::parser_state::{Atomicity, Ending, Lookahead};
@@ -161,40 +160,28 @@ fn rule_ok(
     scratch: &mut [u32],
     s: &mut ParserState,
     room: usize,
-    line: u32,
-    rule: u32,
-    position: BytePosition,
-    index: TokenIndex,
-    n: Noted,
+    b: &Begun,
 ) -> Ending
-    requires { RuleOkReady tokens.old scratch.old room index.0 s.old }
-    ensures { (g : Setting) → g.capacity ≡ room → view_end tokens.new scratch.new s.new result ≡ Pest.rule_end g true line rule position.0 index.0 n.positives n.negatives n.total (Model.Ok (view tokens.old scratch.old s.old)) }
+    requires { RuleOkReady tokens.old scratch.old room b.now.index.0 s.old }
+    ensures { (g : Setting) → g.capacity ≡ room → view_end tokens.new scratch.new s.new result ≡ rule_ended g b.now (Model.Ok (view tokens.old scratch.old s.old)) }
 {
-    let due = is_negative(s.lookahead);
-    match track_rule(scratch, s, due, line, rule, position, n) {
-        Ending::Ok => close_rule(tokens, s, room, line, rule, index),
+    let due = s.lookahead == Lookahead::Negative;
+    match track_rule(scratch, s, due, b) {
+        Ending::Ok => close_rule(tokens, s, room, b),
         Ending::Err => Ending::Err,
         Ending::Stop(c) => Ending::Stop(c),
     }
 }
 
 // A rule whose body failed is tracked, unless under a negative lookahead, and its tokens go.
-fn rule_err(
-    scratch: &mut [u32],
-    s: &mut ParserState,
-    line: u32,
-    rule: u32,
-    position: BytePosition,
-    index: TokenIndex,
-    n: Noted,
-) -> Ending
+fn rule_err(scratch: &mut [u32], s: &mut ParserState, b: &Begun) -> Ending
     requires { Tracking scratch.old s.old }
-    ensures { (g : Setting) (tokens : List ℕ) → view_end tokens scratch.new s.new result ≡ Pest.rule_end g true line rule position.0 index.0 n.positives n.negatives n.total (Model.Err (view tokens scratch.old s.old)) }
+    ensures { (g : Setting) (tokens : List ℕ) → view_end tokens scratch.new s.new result ≡ rule_ended g b.now (Model.Err (view tokens scratch.old s.old)) }
 {
-    let due = !is_negative(s.lookahead);
-    match track_rule(scratch, s, due, line, rule, position, n) {
+    let due = s.lookahead != Lookahead::Negative;
+    match track_rule(scratch, s, due, b) {
         Ending::Ok => {
-            drop_rule(s, index);
+            drop_rule(s, b.index);
             Ending::Err
         }
         Ending::Err => Ending::Err,
@@ -202,25 +189,21 @@ fn rule_err(
     }
 }
 
-// Kind 8, after its line, from what it noted before: `index` is the place of its Start.
+// Kind 8, after its line, from what it noted before.
 pub(crate) fn rule_end(
     tokens: &mut [u32],
     scratch: &mut [u32],
     s: &mut ParserState,
     room: usize,
-    line: u32,
-    rule: u32,
-    position: BytePosition,
-    index: TokenIndex,
-    n: Noted,
+    b: &Begun,
     r: Ending,
 ) -> Ending
-    requires { RuleEndReady tokens.old scratch.old room index.0 s.old r }
-    ensures { (g : Setting) → g.capacity ≡ room → view_end tokens.new scratch.new s.new result ≡ Pest.rule_end g true line rule position.0 index.0 n.positives n.negatives n.total (view_end tokens.old scratch.old s.old r) }
+    requires { RuleEndReady tokens.old scratch.old room b.now.index.0 s.old r }
+    ensures { (g : Setting) → g.capacity ≡ room → view_end tokens.new scratch.new s.new result ≡ rule_ended g b.now (view_end tokens.old scratch.old s.old r) }
 {
     match r {
-        Ending::Ok => rule_ok(tokens, scratch, s, room, line, rule, position, index, n),
-        Ending::Err => rule_err(scratch, s, line, rule, position, index, n),
+        Ending::Ok => rule_ok(tokens, scratch, s, room, b),
+        Ending::Err => rule_err(scratch, s, b),
         Ending::Stop(c) => Ending::Stop(c),
     }
 }

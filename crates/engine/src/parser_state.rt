@@ -15,7 +15,7 @@ use crate::endings::{
 use crate::entry::enter;
 use crate::leaves::{Halt, leaf, walk};
 use crate::node::{ends_at, line_at};
-use crate::rule::{start_rule, tag_node};
+use crate::rule::{Begun, start_rule, tag_node};
 use crate::spine::{descend, ended, goes_right, spine_at};
 use crate::stack::Stack;
 use crate::stack_state::{checkpoint, moved, stack_match_peek_slice, stack_match_pop, stack_pop};
@@ -268,15 +268,17 @@ fn rule(
     let Some(deeper) = enter(s, true, depth) else {
         return Ending::Err;
     };
-    let p = s.position;
-    let q = s.queue;
-    let noted = note(s.attempts, p);
-    match start_rule(tokens, s, g.room, line as u32) {
+    let begun = Begun {
+        line: line as u32,
+        rule: n.a as u32,
+        position: s.position,
+        index: s.queue,
+        noted: note(s.attempts, s.position),
+    };
+    match start_rule(tokens, s, g.room, begun.line) {
         Ending::Ok => {
             let r = node(g, tokens, scratch, s, deeper, n.b);
-            let number = n.a as u32;
-            let at = line as u32;
-            rule_end(tokens, scratch, s, g.room, at, number, p, q, noted, r)
+            rule_end(tokens, scratch, s, g.room, &begun, r)
         }
         Ending::Err => Ending::Err,
         Ending::Stop(c) => Ending::Stop(c),

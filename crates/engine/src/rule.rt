@@ -1,7 +1,6 @@
 // The leaves of `rule` and `tag_node`: what they do to the state before and after the body is evaluated.
 ghost use Rattle.std.specs.Prelude.{◌≡◌, true, List, ℕ, ◌+◌, ◌-◌, ◌*◌, ◌≤◌, length, if◌then◌else◌};
 ghost use Rattle.reading.specs.Ending as Model;
-ghost use Rattle.reading.specs.Ending.{is_negative, is_none, is_atomic};
 ghost use Rattle.reading.specs.Reading.{Setting};
 ghost use Rattle.reading.specs.Pest as Pest;
 ghost use Rattle.engine.specs.Areas.{Outside, view, view_end, positives_at, lengths_at};
@@ -14,43 +13,21 @@ use crate::queueable_token::{push_end, push_start, set_partner, tag_last};
 use matching::position::{BytePosition, TokenIndex};
 use reading::parser_state::{Atomicity, Cause, Ending, Lookahead};
 
-pub(crate) fn is_negative(l: Lookahead) -> bool
-    ensures { result ≡ is_negative l }
-{
-    match l {
-        Lookahead::Negative => true,
-        Lookahead::Positive => false,
-        Lookahead::None => false,
-    }
-}
-
-pub(crate) fn is_atomic(a: Atomicity) -> bool
-    ensures { result ≡ is_atomic a }
-{
-    match a {
-        Atomicity::Atomic => true,
-        Atomicity::CompoundAtomic => false,
-        Atomicity::NonAtomic => false,
-    }
-}
-
-fn is_none(l: Lookahead) -> bool
-    ensures { result ≡ is_none l }
-{
-    match l {
-        Lookahead::None => true,
-        Lookahead::Positive => false,
-        Lookahead::Negative => false,
-    }
+// A rule that was begun: its line and its number, and what pest's `rule` notes before its body. `index` is the place of its Start.
+#[derive(Clone, Copy)]
+pub(crate) struct Begun {
+    pub line: u32,
+    pub rule: u32,
+    pub position: BytePosition,
+    pub index: TokenIndex,
+    pub noted: Noted,
 }
 
 // "A rule is recorded if lookahead is None and atomicity isn't Atomic."
 pub(crate) fn produces(s: &ParserState) -> bool
     ensures { (tokens scratch : List ℕ) → result ≡ Pest.produces (view tokens scratch s.now) }
 {
-    let l = s.lookahead;
-    let a = s.atomicity;
-    if is_none(l) { !is_atomic(a) } else { false }
+    s.lookahead == Lookahead::None && s.atomicity != Atomicity::Atomic
 }
 
 // The Start of a rule that is recorded.
@@ -60,53 +37,32 @@ pub(crate) fn start_rule(tokens: &mut [u32], s: &mut ParserState, room: usize, l
     ensures outside { Outside (s.old.queue.0 * 5) (s.old.queue.0 * 5 + 5) tokens.old tokens.new }
 {
     let n = s.queue;
-    let p = s.position;
-    if produces(s) {
-        if n.0 < room {
-            let after = n.0 + 1;
-            let next = TokenIndex(after);
-            push_start(tokens, n, p);
-            s.queue = next;
-            Ending::Ok
-        } else {
-            Ending::Stop(Cause::TokensFull(line))
-        }
-    } else {
-        Ending::Ok
+    if !produces(s) {
+        return Ending::Ok;
     }
+    if room <= n.0 {
+        return Ending::Stop(Cause::TokensFull(line));
+    }
+    push_start(tokens, n, s.position);
+    s.queue = TokenIndex(n.0 + 1);
+    Ending::Ok
 }
 
 // `track`, where it is due by how the body ended, and outside Atomic.
-pub(crate) fn track_rule(
-    scratch: &mut [u32],
-    s: &mut ParserState,
-    due: bool,
-    line: u32,
-    rule: u32,
-    p: BytePosition,
-    n: Noted,
-) -> Ending
+pub(crate) fn track_rule(scratch: &mut [u32], s: &mut ParserState, due: bool, b: &Begun) -> Ending
     requires { Tracking scratch.old s.old }
-    ensures { ((g : Setting) (tokens : List ℕ) → view_end tokens scratch.new s.new result ≡ Pest.tracking g true due line rule p.0 n.positives n.negatives n.total (view tokens scratch.old s.old) (λ (t : Pest.ParserState). Model.Ok t)) × Outside positives_at lengths_at scratch.old scratch.new }
+    ensures { ((g : Setting) (tokens : List ℕ) → view_end tokens scratch.new s.new result ≡ Pest.tracking g true due b.now.line b.now.rule b.now.position.0 b.now.noted.positives b.now.noted.negatives b.now.noted.total (view tokens scratch.old s.old) (λ (t : Pest.ParserState). Model.Ok t)) × Outside positives_at lengths_at scratch.old scratch.new }
 {
-    let t = s.attempts;
-    let l = s.lookahead;
-    let a = s.atomicity;
-    let negative = is_negative(l);
-    if due {
-        if is_atomic(a) {
+    let negative = s.lookahead == Lookahead::Negative;
+    if !due || s.atomicity == Atomicity::Atomic {
+        return Ending::Ok;
+    }
+    match track(scratch, s.attempts, b.position, b.rule, b.noted, negative) {
+        Some(t) => {
+            s.attempts = t;
             Ending::Ok
-        } else {
-            match track(scratch, t, p, rule, n, negative) {
-                Some(u) => {
-                    s.attempts = u;
-                    Ending::Ok
-                }
-                None => Ending::Stop(Cause::AttemptsFull(line)),
-            }
         }
-    } else {
-        Ending::Ok
+        None => Ending::Stop(Cause::AttemptsFull(b.line)),
     }
 }
 
@@ -121,45 +77,30 @@ fn pair_up(tokens: &mut [u32], index: TokenIndex, n: TokenIndex)
 }
 
 // The End of a rule that is recorded, and the partner of its Start, which is the token at `index`.
-pub(crate) fn close_rule(
-    tokens: &mut [u32],
-    s: &mut ParserState,
-    room: usize,
-    line: u32,
-    rule: u32,
-    index: TokenIndex,
-) -> Ending
-    requires { Recording tokens.old room s.old × (index.0 ≤ room) }
-    ensures state_after { (g : Setting) (scratch : List ℕ) → g.capacity ≡ room → view_end tokens.new scratch s.new result ≡ Pest.close_rule g true line rule index.0 (view tokens.old scratch s.old) }
+pub(crate) fn close_rule(tokens: &mut [u32], s: &mut ParserState, room: usize, b: &Begun) -> Ending
+    requires { Recording tokens.old room s.old × (b.now.index.0 ≤ room) }
+    ensures state_after { (g : Setting) (scratch : List ℕ) → g.capacity ≡ room → view_end tokens.new scratch s.new result ≡ Pest.close_rule g true b.now.line b.now.rule b.now.index.0 (view tokens.old scratch s.old) }
     ensures outside { Outside 0 (s.old.queue.0 * 5 + 5) tokens.old tokens.new }
 {
     let n = s.queue;
-    let p = s.position;
-    if produces(s) {
-        if n.0 < room {
-            let after = n.0 + 1;
-            let next = TokenIndex(after);
-            pair_up(tokens, index, n);
-            push_end(tokens, n, index, rule, p);
-            s.queue = next;
-            Ending::Ok
-        } else {
-            Ending::Stop(Cause::TokensFull(line))
-        }
-    } else {
-        Ending::Ok
+    if !produces(s) {
+        return Ending::Ok;
     }
+    if room <= n.0 {
+        return Ending::Stop(Cause::TokensFull(b.line));
+    }
+    pair_up(tokens, b.index, n);
+    push_end(tokens, n, b.index, b.rule, s.position);
+    s.queue = TokenIndex(n.0 + 1);
+    Ending::Ok
 }
 
 // The queue cut to before the Start of a rule that failed.
 pub(crate) fn drop_rule(s: &mut ParserState, index: TokenIndex)
     ensures { (tokens scratch : List ℕ) → view tokens scratch s.new ≡ dropped index.0 (view tokens scratch s.old) }
 {
-    let n = s.queue;
-    if produces(s) {
-        if index.0 < n.0 {
-            s.queue = index;
-        }
+    if produces(s) && index.0 < s.queue.0 {
+        s.queue = index;
     }
 }
 
@@ -169,10 +110,8 @@ pub(crate) fn tag_node(tokens: &mut [u32], s: &ParserState, tag: u32) -> Ending
     ensures state_after { (scratch : List ℕ) → view_end tokens.new scratch s.now result ≡ Pest.tag_node tag (view tokens.old scratch s.now) }
     ensures outside { Outside ((s.now.queue.0 - 1) * 5) (s.now.queue.0 * 5) tokens.old tokens.new }
 {
-    let l = s.lookahead;
-    let n = s.queue;
-    if is_none(l) {
-        tag_last(tokens, n, tag);
+    if s.lookahead == Lookahead::None {
+        tag_last(tokens, s.queue, tag);
     }
     Ending::Ok
 }

@@ -2,7 +2,7 @@
 // ends.
 
 // The current lookahead status (pest's `Lookahead`).
-#[derive(Clone, Copy)]
+#[derive(Clone, Copy, PartialEq, Eq, Debug)]
 pub enum Lookahead {
     Positive,
     Negative,
@@ -10,7 +10,7 @@ pub enum Lookahead {
 }
 
 // The current atomicity (pest's `Atomicity`).
-#[derive(Clone, Copy)]
+#[derive(Clone, Copy, PartialEq, Eq, Debug)]
 pub enum Atomicity {
     Atomic,
     CompoundAtomic,

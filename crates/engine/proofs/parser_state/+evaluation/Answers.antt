@@ -259,8 +259,8 @@ restore_on_err-returns t c =
 pub rule-returns-in_default : goal.rule-returns-in_default
 rule-returns-in_default t c = by_tree _ _ _ _ _ _ _ _ _ (at_8 _ _ (tests _ _ _ _ c.requires.ready) _ c.requires.line.0 _ c.line_at-n.ensures c.requires.line.1).2 (rule_refused _ _ _ _ _ c.line_at-n.result.b _ _ _ _ (shut_out c.args.tokens.now c.args.scratch.now c.enter.ensures c.in_default.is))
 
-pub rule-note-noted-requires : goal.rule-note-noted-requires
-rule-note-noted-requires t c =
+pub rule-note-requires : goal.rule-note-requires
+rule-note-requires t c =
     let i = let_in c.args.g.now c.args.tokens.now c.args.scratch.now c.requires.ready c.enter.ensures c.in-Some.is in
     (few_of _ _ _ _ c.args.tokens.now c.args.scratch.now _ c.enter.new.s i.ready)
 
@@ -280,8 +280,8 @@ rule-node-r-requires t c =
     begun _ _ _ _ _ i.next i.ready _ _ _ started c.start_rule.auto.tokens in
     (down _ _ _ _ t i.next (at_8 _ _ (tests _ _ _ _ c.requires.ready) _ c.requires.line.0 _ c.line_at-n.ensures c.requires.line.1).0.high (tests _ _ _ _ c.requires.ready).few c.decreases, ((started_ready), (at_8 _ _ (tests _ _ _ _ c.requires.ready) _ c.requires.line.0 _ c.line_at-n.ensures c.requires.line.1).0))
 
-pub rule-overflow_cast-number : goal.rule-overflow_cast-number
-rule-overflow_cast-number t c = let h = (at_8 _ _ (tests _ _ _ _ c.requires.ready) _ c.requires.line.0 _ c.line_at-n.ensures c.requires.line.1).1 in omega arith
+pub rule-overflow_cast-begun-2 : goal.rule-overflow_cast-begun-2
+rule-overflow_cast-begun-2 t c = let h = (at_8 _ _ (tests _ _ _ _ c.requires.ready) _ c.requires.line.0 _ c.line_at-n.ensures c.requires.line.1).1 in omega arith
 
 pub rule-rule_end-requires : goal.rule-rule_end-requires
 rule-rule_end-requires t c =
@@ -300,7 +300,7 @@ rule-returns-in-Ok t c =
     let started :
     Ok (view c.start_rule.new.tokens c.args.scratch.now c.start_rule.new.s) ≡ starting (setting_of c.args.g.now.nodes.now c.args.g.now.literals.now c.args.g.now.text.now c.args.g.now.room) c.args.line (view c.args.tokens.now c.args.scratch.now c.enter.new.s) =
     told _ _ _ _ _ _ (c.start_rule.ensures.state_after (setting_of c.args.g.now.nodes.now c.args.g.now.literals.now c.args.g.now.text.now c.args.g.now.room) c.args.scratch.now refl) c.in-Ok.is in
-    by_tree _ _ _ _ _ _ _ _ _ (at_8 _ _ (tests _ _ _ _ c.requires.ready) _ c.requires.line.0 _ c.line_at-n.ensures c.requires.line.1).2 (rule_step _ _ _ _ _ _ c.line_at-n.result.b i.next _ _ _ _ i.opens _ started _ c.node-r.ensures _ (held _ refl) _ (placed refl) _ (c.note-noted.ensures c.args.scratch.now) _ (c.rule_end.ensures (setting_of c.args.g.now.nodes.now c.args.g.now.literals.now c.args.g.now.text.now c.args.g.now.room) refl))
+    by_tree _ _ _ _ _ _ _ _ _ (at_8 _ _ (tests _ _ _ _ c.requires.ready) _ c.requires.line.0 _ c.line_at-n.ensures c.requires.line.1).2 (rule_step _ _ _ _ _ _ c.line_at-n.result.b i.next _ _ _ _ i.opens _ started _ c.node-r.ensures _ (held _ refl) _ (placed refl) _ (c.note.ensures c.args.scratch.now) _ (c.rule_end.ensures (setting_of c.args.g.now.nodes.now c.args.g.now.literals.now c.args.g.now.text.now c.args.g.now.room) refl))
 
 pub rule-returns-in-Err : goal.rule-returns-in-Err
 rule-returns-in-Err t c =
