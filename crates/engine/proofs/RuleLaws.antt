@@ -33,12 +33,6 @@ use Rattle.engine.proofs.TokenLaws.{queue_length}
 use Rattle.engine.proofs.AttemptLaws.{track_is}
 
 -- ── produces ──
-pub produces_none : (l : Lookahead) (a : Atomicity) (b c : Bool) → b ≡ is_none l → b ≡ true → c ≡ is_atomic a → not c ≡ (is_none l && not (is_atomic a))
-produces_none l a b c e t q = rw (← e, t, q)
-
-pub produces_not : (l : Lookahead) (a : Atomicity) (b : Bool) → b ≡ is_none l → b ≡ false → false ≡ (is_none l && not (is_atomic a))
-produces_not l a b e f = rw (← e, f)
-
 -- ── a test that is decided ──
 module _ {A : Type 0} (b : Bool) (x y : A) where
   when_true : b ≡ true → y ≡ elim b [ false ↦ x | true ↦ y ]
@@ -107,13 +101,6 @@ module _ (a : List ℕ) (n q : TokenIndex) (same : n ≡ q) (capacity c : ℕ) (
   room_no h = let k : n.0 ≡ q.0 = ap (λ (x : TokenIndex). x.0) same in omega (arith, queue_length a q.0)
 
 -- What a push asks.
-module _ {tokens : List ℕ} {room : ℕ} (s : DeclaredState.ParserState) (ready : Recording tokens room s) where
-  pub room_left : (n : TokenIndex) → n.0 < room → n.0 * 5 + 5 ≤ length tokens
-  room_left n l = omega (arith, ready.room)
-
-  pub near_read : (p : BytePosition) → p ≡ s.position → p.0 ≤ 65535
-  near_read p e = rw e ready.near
-
 -- One more token than were read.
 pub one_more : (tokens scratch : List ℕ) (s t : DeclaredState.ParserState) (n : TokenIndex) → n ≡ s.queue → t ≡ Declared.set_queue (record { 0 = n.0 + 1 }) s
     → view tokens scratch t ≡ set_queue (queue_of tokens (s.queue.0 + 1)) (view tokens scratch s)
@@ -121,9 +108,6 @@ one_more tokens scratch s t n e h = rw (h, e)
 
 -- ── the partner of a Start among n tokens ──
 module _ (a b : List ℕ) (i n : ℕ) where
-  pub paired_in : i < n → Patched a i n b → Paired a i n b
-  paired_in l p = record { queue = p.queue n; others = outside_wider (omega arith) (omega arith) p.others }
-
   pub paired_out : n ≤ i → Paired a i n a
   paired_out l = record { queue = sym (set_out (queue_of a n) i _ (omega (arith, queue_length a n))); others = outside_refl a }
 
@@ -146,20 +130,6 @@ module _ (i : ℕ) (m : ParserState) where
 
 -- ── tag ──
 -- the queue's length as it was read, put for what the state has
-module _ (n q : TokenIndex) (same : n ≡ q) where
-  pub fits_read : (size : ℕ) → q.0 * 5 ≤ size → n.0 * 5 ≤ size
-  fits_read size h = rw same h
-
-  pub tagged_at : (a b : List ℕ) (u : ℕ) → Tagged a n.0 u b → Tagged a q.0 u b
-  tagged_at a b u h = rw same at h
-
-module _ (u : ℕ) (m : ParserState) where
-  pub tag_on : (q : List QueueableToken) → is_none m.lookahead ≡ true → q ≡ tag_last u m.queue → Ok (set_queue q m) ≡ tag_node u m
-  tag_on q t e = rw t (ap (λ (x : List QueueableToken). Ok (set_queue x m)) e)
-
-  pub tag_off : is_none m.lookahead ≡ false → Ok m ≡ tag_node u m
-  tag_off f = rw f
-
 -- ── track ──
 -- Tracking leaves the stack as it was.
 pub stack_kept : (a b : List ℕ) (s : Stack) → s.height ≤ 128 → s.popped ≤ 1024 → Outside positives_at lengths_at a b → stack_of b s ≡ stack_of a s
@@ -195,12 +165,6 @@ module _ (g : Setting) (due : Bool) (line r p : ℕ) (n : Noted) (m : ParserStat
   abbrev after : ParserState
   after = Pest.track r p n.positives n.negatives n.total m
 
-  pub track_not_due : due ≡ false → Ok m ≡ tracking g true due line r p n.positives n.negatives n.total m (λ t. Ok t)
-  track_not_due f = rw f
-
-  pub track_atomic : due ≡ true → is_atomic m.atomicity ≡ true → Ok m ≡ tracking g true due line r p n.positives n.negatives n.total m (λ t. Ok t)
-  track_atomic d f = when_false (due && not (is_atomic m.atomicity)) (Ok m) (now_tracked line after) (rw (d, f))
-
   -- w is what tracking gave under the lookahead that `neg` tells of, and v is that answer seen again.
   pub track_told : (v w : Option Tried) (neg : Bool) → v ≡ w → w ≡ within (tracked r p n neg (tried_of m)) → neg ≡ is_negative m.lookahead → due ≡ true → is_atomic m.atomicity ≡ false
       → told line v m ≡ tracking g true due line r p n.positives n.negatives n.total m (λ t. Ok t)
@@ -212,9 +176,6 @@ module _ (g : Setting) (due : Bool) (line r p : ℕ) (n : Noted) (m : ParserStat
 
 -- The attempts t that were read, put for those of the state, u.
 module _ (a : List ℕ) (t u : Attempts) (same : t ≡ u) where
-  pub lent_read : Lent a u → Lent a t
-  lent_read h = rw same h
-
   pub track_read : (r p : ℕ) (n : Noted) (neg : Bool) (w : Option Tried) → w ≡ within (tracked r p n neg (tried a t)) → w ≡ within (tracked r p n neg (tried a u))
   track_read r p n neg w h = rw same at h
 

@@ -16,28 +16,6 @@ use Rattle.reading.specs.Grammar.{node_at, kind_at}
 use Rattle.engine.specs.Lines.{line_of}
 use Rattle.engine.specs.Spine.{left_of, Fork, spine_line, Forks, Slopes, Spined}
 
-pub fork_of : (k : ℕ) → 6 ≤ k → k ≤ 7 → Fork k
-fork_of k lo hi = go (dec_le k 6)
-  where
-    go : Dec (k ≤ 6) → Fork k
-    go (yes h) = inl (omega arith)
-    go (no f) = inr (omega arith)
-
-pub no_fork : (k : ℕ) → (6 ≤ k → k ≤ 7 → ⊥) → Fork k → ⊥
-no_fork k f (inl e) = f (omega arith) (omega arith)
-no_fork k f (inr e) = f (omega arith) (omega arith)
-
--- The test for a fork.
-pub six_forks : (k : ℕ) → k ≡ 6 → (true ≡ true → Fork k) × (true ≡ false → Fork k → ⊥)
-six_forks k e = (λ _. inl e, λ f _. true≢false f)
-
-pub seven_forks : (k : ℕ) → (k ≡ 6 → ⊥) → (eqb k 7 ≡ true → Fork k) × (eqb k 7 ≡ false → Fork k → ⊥)
-seven_forks k n = (λ e. inr (eqb-true k 7 e), none)
-  where
-    none : eqb k 7 ≡ false → Fork k → ⊥
-    none e (inl f) = n f
-    none e (inr f) = eqb-false k 7 e f
-
 module _ (ns : List ℤ) (top : ℕ) where
   pub spine_first : top ≡ spine_line ns top 0
   unfolding spine_line

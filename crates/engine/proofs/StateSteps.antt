@@ -71,9 +71,6 @@ module _ {a b : List ℕ} {s t : ParserState} (r : StateReady a s) (o : OutsideS
 pub stack_read : {a : List ℕ} {s : ParserState} {v : Stack} → v ≡ s.stack → StateReady a s → StackReady a v
 stack_read e r = rw e r.stack
 
-pub position_read : {y p : BytePosition} {n : ℕ} → y ≡ p → p.0 ≤ n → y.0 ≤ n
-position_read e l = rw e l
-
 -- checkpoint, checkpoint_ok, restored
 pub stack_changed : (f : Pest.Stack → Pest.Stack) {a b : List ℕ} {s t : ParserState} {v : Stack} (w : Stack) → StateReady a s → v ≡ s.stack → (stack_of b w ≡ f (stack_of a v)) × OutsideStack a b
     → t ≡ Fields.set_stack w s → ((tokens : List ℕ) → view tokens b t ≡ set_stack (f (stack_of a s.stack)) (view tokens a s)) × OutsideStack a b
@@ -106,14 +103,6 @@ module _ {a b : List ℕ} {s : ParserState} (r : StateReady a s) {v : Stack} (ev
       go : (tokens : List ℕ) (b₀ : Bool) → Some (stack_of b w) ≡ (if b₀ then None else Some after) → Ok (view tokens b t) ≡ stop_if b₀ (StackFull line) (λ _. Ok (set_stack after (view tokens a s)))
       go tokens true q = let z : ◌≡◌ {A = ℕ} 0 1 = cc in absurd (omega arith)
       go tokens false q = let u : stack_of b w ≡ after = cc in ap Ok (view_stack r e.1 w after u et tokens)
-
-  pub push_stopped : p ≡ None
-      → ((tokens : List ℕ) → Stop (StackFull line) ≡ stop_if (leb 128 (length (stack_of a s.stack).cache)) (StackFull line) (λ _. Ok (set_stack after (view tokens a s)))) × OutsideStack a b
-  push_stopped f = (λ tokens. go tokens (leb 128 (length (stack_of a s.stack).cache)) (rw f at said), e.1)
-    where
-      go : (tokens : List ℕ) (b₀ : Bool) → ◌≡◌ {A = Option Pest.Stack} None (if b₀ then None else Some after) → Stop (StackFull line) ≡ stop_if b₀ (StackFull line) (λ _. Ok (set_stack after (view tokens a s)))
-      go tokens true q = refl
-      go tokens false q = let z : ◌≡◌ {A = ℕ} 0 1 = cc in absurd (omega arith)
 
 -- ── stack_pop ──
 module _ (text : List ℕ) (line : ℕ) (m : Pest.ParserState) where
@@ -170,12 +159,6 @@ module _ (text : List ℕ) (line : ℕ) {a b : List ℕ} {s : ParserState} (r : 
         ∙ step_got text line (view tokens a s) (stack_of b w) (span x.start.0 x.end.0) (took (stack_of a s.stack) (stack_of b w) (span x.start.0 x.end.0) (sym (rw f at took_of))),
     e.1,
   )
-
-  pub pop_stopped : p ≡ Result.Err Unpopped.Empty → ((tokens : List ℕ) → Stop (EmptyStack line) ≡ stack_pop text true line (stack_of a s.stack).cache (view tokens a s)) × OutsideStack a b
-  pop_stopped f = (λ tokens. step_empty text line (view tokens a s) (rw f at took_of), e.1)
-
-  pub pop_indebted : p ≡ Result.Err Unpopped.Full → ((tokens : List ℕ) → Stop (StackFull line) ≡ stack_pop text true line (stack_of a s.stack).cache (view tokens a s)) × OutsideStack a b
-  pop_indebted f = (λ tokens. step_full text line (view tokens a s) (rw f at took_of), e.1)
 
 -- ── stack_match_pop ──
 module _ (text : List ℕ) (line : ℕ) {a b : List ℕ} {s : ParserState} (r : StateReady a s) {v : Stack} (ev : v ≡ s.stack) {y : BytePosition} (ey : y ≡ s.position) (p : Option (Stack × Option BytePosition))

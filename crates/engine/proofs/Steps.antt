@@ -50,11 +50,6 @@ use Rattle.reading.proofs.Accepted.{Accepted, accepted, tree_literals, body_lite
 pub told : (a b : List ℕ) (s : Code.ParserState) (r y : Coded.Ending) (x : Ending ParserState) → view_end a b s r ≡ x → r ≡ y → view_end a b s y ≡ x
 told a b s r y x h e = ap (view_end a b s) (sym e) ∙ h
 
--- The code's test of an entry: it goes on where the entry is not refused.
-pub opened_by : (r : Bool) (n : ParserState) (x : Entry) → view_entry r n ≡ x → not r ≡ false → opened n ≡ x
-opened_by true n x h e = h
-opened_by false n x h e = absurd (true≢false e)
-
 pub refused_by : (r : Bool) (n : ParserState) (x : Entry) → view_entry r n ≡ x → not r ≡ true → refused n ≡ x
 refused_by true n x h e = absurd (false≢true e)
 refused_by false n x h e = h

@@ -49,10 +49,6 @@ pub record Walking (ns : List ℤ) (literals text : List ℕ) (capacity d line :
   pub scratch_same : length scratch ≡ length scratch₀
   pub runs : evaluated ns literals text capacity d (tree_at ns literals at) m ≡ evaluated ns literals text capacity d (tree_at ns literals line) m₀
 
-pub first_walk : (ns : List ℤ) (literals text : List ℕ) (capacity d line : ℕ) (tokens scratch : List ℕ) (m : ParserState) → Ready ns literals text tokens scratch capacity d m → Line ns line
-    → Walking ns literals text capacity d line tokens scratch m tokens scratch line m
-first_walk ns literals text capacity d line tokens scratch m r i = record { ready = r; here = i; upto = omega arith; tokens_same = refl; scratch_same = refl; runs = refl }
-
 -- Whether a line is a fork, and what is then below it.
 data Below (ns : List ℤ) (l : ℕ) : Type 0 where
   left : Fork (kind_at ns l) → below ns l ≡ left_of ns l → Below ns l
