@@ -33,7 +33,6 @@ module _ (a : List ℕ) (s t : CodeState.ParserState) (p : BytePosition) (i : To
   pub cut_view : (tokens : List ℕ) → i.0 ≤ s.queue.0 → view tokens a t ≡ set_lookahead l (set_queue (take i.0 (queue_of tokens s.queue.0)) (set_position p.0 (view tokens a s)))
   cut_view tokens h = ap (view tokens a) e ∙ ap (λ (q : List QueueableToken). set_lookahead l (set_queue q (set_position p.0 (view tokens a s)))) (sym (queue_take tokens s.queue.0 i.0 h))
 
--- ── the atomicity ──
 -- ── the answer of a lookahead ──
 pub looking_limit : (good : Bool) (m : ParserState) → limit_reached m ≡ true → Err m ≡ looking good m
 looking_limit good m e = rw e
@@ -49,10 +48,3 @@ moved_by o q m e = ap (λ (x : Option BytePosition). moved (match_of x) m) e ∙
     go : (y : Option ℕ) → moved (match_of (matched y)) m ≡ moved y m
     go None = refl
     go (Some p) = refl
-
-module _ (text literals : List ℕ) (offset size p : ℕ) (q : Option BytePosition) (m : ParserState) (folded : Bool) where
-  same_size : offset + size - offset ≡ size
-  same_size = omega arith
-
-  abbrev by_case : Bool → Option ℕ
-  by_case b = if b then match_insensitive text (take size (drop offset literals)) p else match_string text (take size (drop offset literals)) p

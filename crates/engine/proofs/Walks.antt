@@ -171,36 +171,39 @@ module _ (ns : List ℤ) (literals text : List ℕ) (capacity d : ℕ) where
             let v : Able g d t = subst (FineOn g d) (sym f) (fine_going g d k x c.fine) in
             ready_on ns literals text capacity r (c.tokens_same ∙ ut) (c.scratch_same ∙ us) v.0 v.1
 
-        module _ (o : 1 < i) (l : ℕ) (q : l ≡ spine_line ns top (i - 1)) (n : Read.Line) (h : n ≡ line_of (node_at ns l)) where
+        module _ (j : ℕ) (above : j + 1 ≡ i) (o : 1 ≤ j) (l : ℕ) (q : l ≡ spine_line ns top j) (n : Read.Line) (h : n ≡ line_of (node_at ns l)) where
           -- The right side is lower than the spine's line, which is lower than the top.
           pub climb_in : (1 ≤ n.b) × (n.b + 1 < top)
           climb_in =
-              let v = Climbs.right_lower ns literals text capacity d fk top here.low here.high p w (i - 1) l (omega (arith, c.upto)) q n h in
+              let v = Climbs.right_lower ns literals text capacity d fk top here.low here.high p w j l (omega (arith, above, c.upto)) q n h in
               (v.0.0, omega (arith, v.0.1, v.1))
 
           pub climb_line : Line ns n.b
           climb_line = let v = climb_in in record { low = v.0; high = omega (arith, v.1, here.high) }
 
-          climbs : (y : Ending ParserState) → y ≡ onto (at_line n.b) (going n.kind x) → (m' : ParserState) → x₀ ≡ at_line (spine_line ns top p.count) m' → y ≡ at_line (spine_line ns top (i - 1)) m'
-          climbs y f m' e = Climbs.climb_runs ns literals text capacity d fk top here.low here.high p w m' i x (omega arith) c.upto (c.runs m' e) l q n h y f
+          climbs : (y : Ending ParserState) → y ≡ onto (at_line n.b) (going n.kind x) → (m' : ParserState) → x₀ ≡ at_line (spine_line ns top p.count) m' → y ≡ at_line (spine_line ns top j) m'
+          climbs y f m' e =
+              let back : i - 1 ≡ j = omega (arith, above) in
+              Climbs.climb_runs ns literals text capacity d fk top here.low here.high p w m' i x (omega (arith, above, o)) c.upto (c.runs m' e) l (q ∙ ap (spine_line ns top) (sym back)) n h y f
+              ∙ ap (λ (k : ℕ). at_line (spine_line ns top k) m') back
 
           pub climb_go : (t : ParserState) → go t ≡ going n.kind x → (tokens' scratch' : List ℕ) (y : Ending ParserState) → y ≡ at_line n.b t → length tokens' ≡ length tokens → length scratch' ≡ length scratch
-              → Climbing ns literals text capacity d top p.count tokens₀ scratch₀ x₀ tokens' scratch' y (i - 1)
+              → Climbing ns literals text capacity d top p.count tokens₀ scratch₀ x₀ tokens' scratch' y j
           climb_go t f tokens' scratch' y v a b = record {
             tokens_same = a ∙ c.tokens_same;
             scratch_same = b ∙ c.scratch_same;
-            low = λ _. omega arith;
-            upto = omega (arith, c.upto);
+            low = λ _. o;
+            upto = omega (arith, above, c.upto);
             fine = fine_line tokens scratch n.b t y (go_ready n.kind t f) v;
             runs = climbs y (v ∙ ap (onto (at_line n.b)) f);
           }
 
-          pub climb_stay : stay x ≡ going n.kind x → Climbing ns literals text capacity d top p.count tokens₀ scratch₀ x₀ tokens scratch x (i - 1)
+          pub climb_stay : stay x ≡ going n.kind x → Climbing ns literals text capacity d top p.count tokens₀ scratch₀ x₀ tokens scratch x j
           climb_stay f = record {
             tokens_same = c.tokens_same;
             scratch_same = c.scratch_same;
-            low = λ _. omega arith;
-            upto = omega (arith, c.upto);
+            low = λ _. o;
+            upto = omega (arith, above, c.upto);
             fine = c.fine;
             runs = climbs x (ap (onto (at_line n.b)) f);
           }

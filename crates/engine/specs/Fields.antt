@@ -3,7 +3,6 @@ use Rattle.matching.specs.declared.position.BytePosition.{BytePosition}
 use Rattle.matching.specs.declared.position.TokenIndex.{TokenIndex}
 use Rattle.reading.specs.declared.parser_state.Lookahead.{Lookahead}
 use Rattle.reading.specs.declared.parser_state.Atomicity.{Atomicity}
-use Rattle.checks.specs.declared.call_limit_tracker.CallLimitTracker.{CallLimitTracker}
 use Rattle.engine.specs.declared.attempts.Attempts.{Attempts}
 use Rattle.engine.specs.declared.stack.Stack.{Stack}
 use Rattle.engine.specs.declared.parser_state.ParserState.{ParserState}
@@ -19,9 +18,6 @@ set_attempts t s = record s { attempts = t }
 
 abbrev pub set_stack : Stack → ParserState → ParserState
 set_stack v s = record s { stack = v }
-
-abbrev pub set_tracker : CallLimitTracker → ParserState → ParserState
-set_tracker t s = record s { tracker = t }
 
 abbrev pub set_lookahead : Lookahead → ParserState → ParserState
 set_lookahead l s = record s { lookahead = l }

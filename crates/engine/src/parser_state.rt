@@ -207,10 +207,8 @@ fn left_side(
 {
     let low = descend(g.nodes, line);
     let mut e = simple(g, tokens, scratch, s, depth, low.line);
-    let mut i = low.count;
-    while i > 1 {
-        i -= 1;
-        let l = spine_at(g.nodes, line, i);
+    for k in 1..low.count {
+        let l = spine_at(g.nodes, line, low.count - k);
         let n = line_at(g.nodes, l);
         if goes_right(n.kind, e) {
             e = node(g, tokens, scratch, s, depth, n.b);

@@ -25,6 +25,7 @@ use Rattle.reading.specs.Ending.{Ok}
 use Rattle.engine.specs.Attempts.{Few, noted, tried}
 use Rattle.engine.specs.Rule.{starting}
 use Rattle.reading.specs.Pest as Pest
+use Rattle.engine.proofs.parser_state.+evaluation.Goals.{left_side-then-goes_right, left_side-else-goes_right}
 use Rattle.engine.proofs.parser_state.+evaluation.Goals as goal
 
 -- ── atomic ──
@@ -61,26 +62,36 @@ left_side-descend-low-requires t c = slopes _ _ _ _ _ _ _ _ _ c.requires.ready c
 pub left_side-simple-e-requires : goal.left_side-simple-e-requires
 left_side-simple-e-requires t c = (omega (arith, c.decreases, low_upto _ _ _ _ _ _ _ _ _ c.requires.ready c.requires.line _ c.descend-low.ensures), ((c.requires.ready), (low_line _ _ _ _ _ _ _ _ _ c.requires.ready c.requires.line _ c.descend-low.ensures, c.descend-low.ensures.last)))
 
-pub left_side-loop-i-init : goal.left_side-loop-i-init
-left_side-loop-i-init t c = first_climb _ _ _ _ _ _ _ _ _ c.requires.ready c.requires.line _ c.descend-low.ensures _ _ _ c.simple-e.ensures
+pub left_side-loop-k-init : goal.left_side-loop-k-init
+left_side-loop-k-init t c = (c.descend-low.result.count, refl, first_climb _ _ _ _ _ _ _ _ _ c.requires.ready c.requires.line _ c.descend-low.ensures _ _ _ c.simple-e.ensures)
 
 pub left_side-spine_at-l-requires : goal.left_side-spine_at-l-requires
-left_side-spine_at-l-requires t c = (slopes _ _ _ _ _ _ _ _ _ c.requires.ready c.requires.line, forks_below _ _ _ _ _ _ _ _ _ c.requires.ready c.requires.line _ c.descend-low.ensures _ (omega (arith, c.loop-i.invariant.upto)))
+left_side-spine_at-l-requires t c = (slopes _ _ _ _ _ _ _ _ _ c.requires.ready c.requires.line, forks_below _ _ _ _ _ _ _ _ _ c.requires.ready c.requires.line _ c.descend-low.ensures _ (omega (arith, c.loop-k.invariant.1, c.loop-k.invariant.2.upto)))
 
 pub left_side-line_at-n-requires : goal.left_side-line_at-n-requires
-left_side-line_at-n-requires t c = line_whole _ _ _ _ _ _ _ _ _ c.requires.ready c.requires.line _ c.descend-low.ensures _ _ (omega (arith, c.loop-i.invariant.upto)) c.spine_at-l.ensures
+left_side-line_at-n-requires t c = line_whole _ _ _ _ _ _ _ _ _ c.requires.ready c.requires.line _ c.descend-low.ensures _ _ (omega (arith, c.loop-k.invariant.1, c.loop-k.invariant.2.upto)) c.spine_at-l.ensures
 
 pub left_side-node-e-requires : goal.left_side-node-e-requires
-left_side-node-e-requires t c = (omega (arith, c.decreases, (climb_in _ _ _ _ _ _ _ _ _ c.requires.ready c.requires.line _ c.descend-low.ensures _ _ _ c.simple-e.auto.tokens c.simple-e.auto.scratch _ _ _ _ c.loop-i.invariant c.loop-i-test.true _ c.spine_at-l.ensures _ c.line_at-n.ensures).1), ((go_ready _ _ _ _ _ _ _ _ _ c.requires.ready c.requires.line _ c.descend-low.ensures _ _ _ c.simple-e.auto.tokens c.simple-e.auto.scratch _ _ _ _ c.loop-i.invariant _ _ (goes_yes _ _ _ _ _ (sym c.goes_right.ensures ∙ c.if-goes_right.true))), climb_line _ _ _ _ _ _ _ _ _ c.requires.ready c.requires.line _ c.descend-low.ensures _ _ _ c.simple-e.auto.tokens c.simple-e.auto.scratch _ _ _ _ c.loop-i.invariant c.loop-i-test.true _ c.spine_at-l.ensures _ c.line_at-n.ensures))
+left_side-node-e-requires t c = (omega (arith, c.decreases, (climb_in _ _ _ _ _ _ _ _ _ c.requires.ready c.requires.line _ c.descend-low.ensures _ _ _ c.simple-e.auto.tokens c.simple-e.auto.scratch _ _ _ _ c.loop-k.invariant.2 (c.descend-low.result.count - c.loop-k.k) (omega (arith, c.loop-k.invariant.1)) (omega arith) _ c.spine_at-l.ensures _ c.line_at-n.ensures).1), ((go_ready _ _ _ _ _ _ _ _ _ c.requires.ready c.requires.line _ c.descend-low.ensures _ _ _ c.simple-e.auto.tokens c.simple-e.auto.scratch _ _ _ _ c.loop-k.invariant.2 _ _ (goes_yes _ _ _ _ _ (sym c.goes_right.ensures ∙ c.if-goes_right.true))), climb_line _ _ _ _ _ _ _ _ _ c.requires.ready c.requires.line _ c.descend-low.ensures _ _ _ c.simple-e.auto.tokens c.simple-e.auto.scratch _ _ _ _ c.loop-k.invariant.2 (c.descend-low.result.count - c.loop-k.k) (omega (arith, c.loop-k.invariant.1)) (omega arith) _ c.spine_at-l.ensures _ c.line_at-n.ensures))
 
-pub left_side-loop-i-preserved-then-goes_right : goal.left_side-loop-i-preserved-then-goes_right
-left_side-loop-i-preserved-then-goes_right t c = (climb_go _ _ _ _ _ _ _ _ _ c.requires.ready c.requires.line _ c.descend-low.ensures _ _ _ c.simple-e.auto.tokens c.simple-e.auto.scratch _ _ _ _ c.loop-i.invariant c.loop-i-test.true _ c.spine_at-l.ensures _ c.line_at-n.ensures _ (goes_yes _ _ _ _ _ (sym c.goes_right.ensures ∙ c.if-goes_right.true)) _ _ _ c.node-e.ensures c.node-e.auto.tokens c.node-e.auto.scratch)
 
-pub left_side-loop-i-preserved : goal.left_side-loop-i-preserved
-left_side-loop-i-preserved t c = (climb_stay _ _ _ _ _ _ _ _ _ c.requires.ready c.requires.line _ c.descend-low.ensures _ _ _ c.simple-e.auto.tokens c.simple-e.auto.scratch _ _ _ _ c.loop-i.invariant c.loop-i-test.true _ c.spine_at-l.ensures _ c.line_at-n.ensures (goes_no _ _ _ _ _ (sym c.goes_right.ensures ∙ c.if-goes_right.false)))
+pub left_side-loop-k-preserved : goal.left_side-loop-k-preserved
+left_side-loop-k-preserved t c =
+    elim c.if-goes_right.branch [
+      left_side-then-goes_right w ↦ rw (w.tokens-is, w.scratch-is, w.s-is, w.e-is) (
+        c.descend-low.result.count - c.loop-k.k,
+        omega arith,
+        climb_go _ _ _ _ _ _ _ _ _ c.requires.ready c.requires.line _ c.descend-low.ensures _ _ _ c.simple-e.auto.tokens c.simple-e.auto.scratch _ _ _ _ c.loop-k.invariant.2 (c.descend-low.result.count - c.loop-k.k) (omega (arith, c.loop-k.invariant.1)) (omega arith) _ c.spine_at-l.ensures _ c.line_at-n.ensures _ (goes_yes _ _ _ _ _ (sym c.goes_right.ensures ∙ w.if-goes_right.true)) _ _ _ w.node-e.ensures w.node-e.auto.tokens w.node-e.auto.scratch,
+      )
+    | left_side-else-goes_right w ↦ rw (w.tokens-is, w.scratch-is, w.s-is, w.e-is) (
+        c.descend-low.result.count - c.loop-k.k,
+        omega arith,
+        climb_stay _ _ _ _ _ _ _ _ _ c.requires.ready c.requires.line _ c.descend-low.ensures _ _ _ c.simple-e.auto.tokens c.simple-e.auto.scratch _ _ _ _ c.loop-k.invariant.2 (c.descend-low.result.count - c.loop-k.k) (omega (arith, c.loop-k.invariant.1)) (omega arith) _ c.spine_at-l.ensures _ c.line_at-n.ensures (goes_no _ _ _ _ _ (sym c.goes_right.ensures ∙ w.if-goes_right.false)),
+      )
+    ]
 
 pub left_side-returns : goal.left_side-returns
-left_side-returns t c = climbed _ _ _ _ _ _ _ _ _ c.requires.ready c.requires.line _ c.descend-low.ensures _ _ _ c.simple-e.auto.tokens c.simple-e.auto.scratch _ _ _ _ c.loop-i.invariant (omega (arith, c.loop-i-test.false)) c.simple-e.ensures
+left_side-returns t c = climbed _ _ _ _ _ _ _ _ _ c.requires.ready c.requires.line _ c.descend-low.ensures _ _ _ c.simple-e.auto.tokens c.simple-e.auto.scratch _ _ _ _ c.loop-k.invariant.2 (omega (arith, c.loop-k.invariant.1)) c.simple-e.ensures
 
 -- ── lookahead ──
 -- An open entry, a checkpoint of the state that looks ahead, the body, `lookahead_end`: put together by `lookahead-step`.
