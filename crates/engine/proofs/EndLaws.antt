@@ -1,28 +1,21 @@
 -- An ending is known in each arm of a function over it: there the definition computes, and one law says what the arm's state stands for.
-use Rattle.std.specs.Prelude.{if◌then◌else◌}
 use mathlib.Core.Path.{◌≡◌, refl, sym, ap, ◌∙◌}
-use mathlib.Core.Bool.{Bool, true, false, not}
+use mathlib.Core.Bool.{Bool, true, false}
 use mathlib.Core.List.{List}
 use Rattle.std.specs.Prelude.{Option, None, Some}
-use Prim.Native.Nat.{ℕ, ◌+◌, ◌-◌, ◌≤◌}
-use native.Mathlib.Omega.{arith}
-use lib.ListN.{take, drop}
-use Rattle.matching.specs.Position.{match_string, match_insensitive}
+use Prim.Native.Nat.{ℕ, ◌≤◌}
+use lib.ListN.{take}
 use Rattle.matching.specs.Answers.{matched}
 use Rattle.matching.specs.declared.position.BytePosition.{BytePosition}
 use Rattle.matching.specs.declared.position.TokenIndex.{TokenIndex}
 use Rattle.reading.specs.declared.parser_state.Lookahead.{Lookahead}
-use Rattle.reading.specs.declared.parser_state.Atomicity.{Atomicity}
-use Rattle.reading.specs.declared.parser_state.Ending as Declared
-use Rattle.reading.specs.declared.parser_state.Ending.TheVariants as Variants
 use Rattle.engine.specs.Fields as Code
 use Rattle.engine.specs.declared.parser_state.ParserState as CodeState
 use Rattle.reading.specs.Ending.{Ok, Err}
 use Rattle.reading.specs.Pest.{ParserState, QueueableToken, set_position, set_queue, set_lookahead, limit_reached, moved}
-use Rattle.engine.specs.Areas.{view, view_end, queue_of}
-use Rattle.engine.specs.StackReady.{StateReady}
+use Rattle.engine.specs.Areas.{view, queue_of}
 use Rattle.engine.specs.StackMatch.{match_of}
-use Rattle.engine.specs.Ends.{looking, atomic_back}
+use Rattle.engine.specs.Ends.{looking}
 use Rattle.engine.proofs.TokenLaws.{queue_take}
 
 -- ── the state before a restore ──

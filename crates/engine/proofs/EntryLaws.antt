@@ -1,20 +1,11 @@
 -- The entry of a combinator: what the tracker answers is stored in the state, which then goes on or is refused.
 use Rattle.std.specs.Prelude.{if◌then◌else◌}
-use mathlib.Core.Path.{◌≡◌, refl, ap, ◌∙◌}
+use mathlib.Core.Path.{◌≡◌, refl}
 use mathlib.Core.Bool.{Bool, true, false}
-use mathlib.Core.List.{List}
-use Prim.Native.Nat.{ℕ}
 use Rattle.reading.specs.Ending.{Ending, Err}
-use Rattle.reading.specs.Reading.{enter}
 use Rattle.reading.specs.Pest as Pest
 use Rattle.reading.specs.Pest.{ParserState, CallLimitTracker, set_call_tracker, check_limit}
-use Rattle.checks.specs.declared.call_limit_tracker.CallLimitTracker as Code
-use Rattle.checks.specs.Tracker.{reading_of, admitted, answered, tracker_of}
-use Rattle.checks.proofs.TrackerLaws.{pest_answers}
-use Rattle.engine.specs.Fields as Fields
-use Rattle.engine.specs.declared.parser_state.ParserState as FieldsState
-use Rattle.engine.specs.Areas.{view}
-use Rattle.engine.specs.Entry.{opened, refused, entering, view_entry, go_on}
+use Rattle.engine.specs.Entry.{opened, refused, entering, go_on}
 
 -- How the combinators' own words use it.
 pub check_limit_is : (room counted : Bool) (m : ParserState) (k : ParserState → Ending ParserState) → check_limit room counted m k ≡ go_on (entering room counted m) k

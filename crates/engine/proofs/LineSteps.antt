@@ -7,16 +7,12 @@ use mathlib.Core.Logic.{◌⊎◌, inl, inr}
 use mathlib.Core.List.{List}
 use Prim.Native.Nat.{ℕ, zero, suc, ◌+◌, ◌*◌, ◌≤◌}
 use native.Mathlib.Omega.{arith}
-use native.Mathlib.Decide.{dec_le}
 use lib.Dec.{eqb}
 use lib.IntN.{ℤ}
 use lib.ListN.{length}
 use borrow.Author.Tests.{eq-eqb, ne_eqb}
-use Rattle.matching.specs.Utf8.{within}
-use Rattle.matching.proofs.Lead as Lead
 use Rattle.engine.specs.declared.node.Line as Read
 use Rattle.reading.specs.declared.parser_state.Atomicity.{Atomicity}
-use Rattle.reading.specs.declared.parser_state.Atomicity.TheVariants.{NonAtomic}
 use Rattle.reading.specs.Ending.{Ending}
 use Rattle.reading.specs.Grammar as Grammar
 use Rattle.reading.specs.Grammar.{Exp, node_at, natural, kind_at, tree_at, atomicity_of}
@@ -25,7 +21,7 @@ use Rattle.reading.specs.Pest as Pest
 use Rattle.reading.specs.Pest.{ParserState}
 use Rattle.engine.specs.Lines.{line_of}
 use Rattle.engine.specs.Spine.{Fork}
-use Rattle.engine.specs.Evaluation.{setting_of, Line, evaluated, opens_call}
+use Rattle.engine.specs.Evaluation.{setting_of, Line, evaluated}
 use Rattle.reading.proofs.Accepted.{Accepted, Lower, Fits, RuleLine, facts, tree_kind}
 
 -- ── Kinds ──

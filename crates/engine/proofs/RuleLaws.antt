@@ -12,23 +12,21 @@ use lib.Dec.{ltb, leb}
 use borrow.Author.Tests.{le-leb, lt-leb}
 use Rattle.matching.specs.declared.position.BytePosition.{BytePosition}
 use Rattle.matching.specs.declared.position.TokenIndex.{TokenIndex}
-use Rattle.reading.specs.declared.parser_state.Lookahead.{Lookahead}
-use Rattle.reading.specs.declared.parser_state.Atomicity.{Atomicity}
 use Rattle.reading.specs.declared.parser_state.Cause.TheVariants.{TokensFull, AttemptsFull}
 use Rattle.engine.specs.declared.attempts.Noted.{Noted}
 use Rattle.engine.specs.declared.attempts.Attempts.{Attempts}
 use Rattle.engine.specs.declared.stack.Stack.{Stack}
 use Rattle.engine.specs.Fields as Declared
 use Rattle.engine.specs.declared.parser_state.ParserState as DeclaredState
-use Rattle.reading.specs.Ending.{Ending, Ok, Stop, on_ok, stop_if, is_negative, is_none, is_atomic}
+use Rattle.reading.specs.Ending.{Ending, Ok, Stop, on_ok, stop_if, is_negative, is_atomic}
 use Rattle.reading.specs.Reading.{Setting, most_attempts}
 use Rattle.reading.specs.Pest as Pest
 use Rattle.reading.specs.Pest.{ParserState, QueueableToken, Start, End, produces, with_end, set_queue, push_token, tracking, close_rule, tag_last, tag_node}
 use Rattle.engine.specs.Areas.{Outside, view, queue_of, stack_of, span, checkpoint, positives_at, lengths_at, entries_at, popped_at}
-use Rattle.engine.specs.Attempts.{Tried, tried, tried_of, with_tried, noted, tracked, within, Lent}
-use Rattle.engine.specs.Tokens.{Patched, Paired, Pushed, Tagged}
-use Rattle.engine.specs.Rule.{starting, dropped, Recording}
-use Rattle.engine.proofs.Regions.{outside_refl, outside_wider, same_below, same_above, pairs_same}
+use Rattle.engine.specs.Attempts.{Tried, tried, tried_of, with_tried, noted, tracked, within}
+use Rattle.engine.specs.Tokens.{Paired, Pushed}
+use Rattle.engine.specs.Rule.{starting, dropped}
+use Rattle.engine.proofs.Regions.{outside_refl, same_below, same_above, pairs_same}
 use Rattle.engine.proofs.TokenLaws.{queue_length}
 use Rattle.engine.proofs.AttemptLaws.{track_is}
 

@@ -1,5 +1,5 @@
 -- Tracking ends Ok, and the state that it left loses the rule's tokens; or it does not, and that is the end.
-use mathlib.Core.Path.{◌≡◌, refl, ap, ◌∙◌}
+use mathlib.Core.Path.{◌≡◌, refl, ap}
 use mathlib.Core.Bool.{not}
 use Rattle.reading.specs.Ending.{Err, is_negative}
 use Rattle.engine.specs.declared.parser_state.ParserState.{ParserState}

@@ -1,5 +1,5 @@
 -- Tracking ends Ok, and the End is written to the state that it left; or it does not, and that is the end.
-use mathlib.Core.Path.{◌≡◌, refl, ap, ◌∙◌}
+use mathlib.Core.Path.{◌≡◌, refl}
 use Rattle.reading.specs.Ending.{is_negative}
 use Rattle.engine.specs.declared.parser_state.ParserState.{ParserState}
 use Rattle.engine.specs.Areas.{view}

@@ -1,5 +1,4 @@
 -- A leaf's match ends the walk; any other line is left to others.
-use mathlib.Core.Bool.{true, false}
 use native.Mathlib.Omega.{arith}
 use Rattle.reading.proofs.Accepted.{accepted}
 use Rattle.engine.proofs.LineSteps.{whole}

@@ -1,28 +1,22 @@
 use Prim.Native.Nat.{◌-◌, ◌≤◌}
 use mathlib.Core.Path.{◌≡◌, refl, ap, sym, ◌∙◌, subst}
-use mathlib.Core.Bool.{true, false, not}
-use lib.Dec.{ltb, eqb}
-use lib.ListN.{length}
+use mathlib.Core.Bool.{not}
+use lib.Dec.{eqb}
 use Rattle.engine.specs.Fields.{set_position, set_lookahead, set_atomicity}
 use Rattle.engine.specs.Areas.{view, view_end}
-use Rattle.engine.specs.Entry.{opened, entering}
 use Rattle.engine.specs.Evaluation.{Ready, evaluated, setting_of}
 use Rattle.engine.proofs.LetIn.{let_in, shut_out}
-use Rattle.engine.proofs.Steps.{down, tests, ready_open, ready_less, ready_atom, atomic_step, atomic_refused, mark_of, ready_marked, ready_looking, body_ready, placed, lookahead_step, lookahead_refused, optional_step, optional_refused, told, refused_test, passed_test, restore_step, restore_refused, few_of, recording_of, begun, body_rule, place_of, held, rule_step, rule_refused, rule_err, rule_stop, marked_queue, sequence_step, sequence_refused, body_push, push_step, push_refused}
+use Rattle.engine.proofs.Steps.{down, tests, ready_less, ready_atom, atomic_step, atomic_refused, mark_of, ready_marked, ready_looking, body_ready, placed, lookahead_step, lookahead_refused, optional_step, optional_refused, told, refused_test, passed_test, restore_step, restore_refused, few_of, recording_of, begun, body_rule, place_of, held, rule_step, rule_refused, rule_err, rule_stop, marked_queue, sequence_step, sequence_refused, body_push, push_step, push_refused}
 use Rattle.engine.proofs.LineSteps.{whole, by_tree, at_13, at_12, at_11, fork_at, at_10, moves_10, at_18, at_8, at_9, rule_line, rule_runs, at_14}
-use Rattle.reading.specs.Grammar.{tree_at, kind_at}
+use Rattle.reading.specs.Grammar.{tree_at}
 use native.Mathlib.Omega.{arith}
 use Rattle.engine.proofs.Climbs.{goes_yes, goes_no, goes_fork}
-use Rattle.engine.proofs.Walks.{slopes, low_line, low_upto, forks_below, line_whole, first_climb, go_ready, climb_in, climb_line, climb_go, climb_stay, climbed, Walking, top_in, top_stay, top_go}
+use Rattle.engine.proofs.Walks.{slopes, low_line, low_upto, forks_below, line_whole, first_climb, go_ready, climb_in, climb_line, climb_go, climb_stay, climbed, top_in, top_stay, top_go}
 use Rattle.reading.specs.declared.parser_state.Lookahead.{Lookahead}
 use Rattle.engine.proofs.LeafSteps.{answers, at_done, at_fork, no_higher}
-use Rattle.engine.specs.Spine.{Fork}
-use Rattle.engine.specs.Leaves.{Walked, answer}
 use Rattle.engine.proofs.Turns.{first_turn, turned, next_turn, repeat_err, repeat_stop, repeat_refused}
 use Rattle.matching.specs.declared.position.TokenIndex.{TokenIndex}
-use Rattle.engine.specs.declared.attempts.Attempts.{Attempts}
 use Rattle.reading.specs.Ending.{Ok}
-use Rattle.engine.specs.Attempts.{Few, noted, tried}
 use Rattle.engine.specs.Rule.{starting}
 use Rattle.reading.specs.Pest as Pest
 use Rattle.engine.proofs.parser_state.+evaluation.Goals.{left_side-then-goes_right, left_side-else-goes_right}
@@ -74,16 +68,15 @@ left_side-line_at-n-requires t c = line_whole _ _ _ _ _ _ _ _ _ c.requires.ready
 pub left_side-node-e-requires : goal.left_side-node-e-requires
 left_side-node-e-requires t c = (omega (arith, c.decreases, (climb_in _ _ _ _ _ _ _ _ _ c.requires.ready c.requires.line _ c.descend-low.ensures _ _ _ c.simple-e.auto.tokens c.simple-e.auto.scratch _ _ _ _ c.loop-k.invariant.2 (c.descend-low.result.count - c.loop-k.k) (omega (arith, c.loop-k.invariant.1)) (omega arith) _ c.spine_at-l.ensures _ c.line_at-n.ensures).1), ((go_ready _ _ _ _ _ _ _ _ _ c.requires.ready c.requires.line _ c.descend-low.ensures _ _ _ c.simple-e.auto.tokens c.simple-e.auto.scratch _ _ _ _ c.loop-k.invariant.2 _ _ (goes_yes _ _ _ _ _ (sym c.goes_right.ensures ∙ c.if-goes_right.true))), climb_line _ _ _ _ _ _ _ _ _ c.requires.ready c.requires.line _ c.descend-low.ensures _ _ _ c.simple-e.auto.tokens c.simple-e.auto.scratch _ _ _ _ c.loop-k.invariant.2 (c.descend-low.result.count - c.loop-k.k) (omega (arith, c.loop-k.invariant.1)) (omega arith) _ c.spine_at-l.ensures _ c.line_at-n.ensures))
 
-
 pub left_side-loop-k-preserved : goal.left_side-loop-k-preserved
 left_side-loop-k-preserved t c =
     elim c.if-goes_right.branch [
-      left_side-then-goes_right w ↦ rw (w.tokens-is, w.scratch-is, w.s-is, w.e-is) (
+      | left_side-then-goes_right w ↦ rw (w.tokens-is, w.scratch-is, w.s-is, w.e-is) (
         c.descend-low.result.count - c.loop-k.k,
         omega arith,
         climb_go _ _ _ _ _ _ _ _ _ c.requires.ready c.requires.line _ c.descend-low.ensures _ _ _ c.simple-e.auto.tokens c.simple-e.auto.scratch _ _ _ _ c.loop-k.invariant.2 (c.descend-low.result.count - c.loop-k.k) (omega (arith, c.loop-k.invariant.1)) (omega arith) _ c.spine_at-l.ensures _ c.line_at-n.ensures _ (goes_yes _ _ _ _ _ (sym c.goes_right.ensures ∙ w.if-goes_right.true)) _ _ _ w.node-e.ensures w.node-e.auto.tokens w.node-e.auto.scratch,
       )
-    | left_side-else-goes_right w ↦ rw (w.tokens-is, w.scratch-is, w.s-is, w.e-is) (
+      | left_side-else-goes_right w ↦ rw (w.tokens-is, w.scratch-is, w.s-is, w.e-is) (
         c.descend-low.result.count - c.loop-k.k,
         omega arith,
         climb_stay _ _ _ _ _ _ _ _ _ c.requires.ready c.requires.line _ c.descend-low.ensures _ _ _ c.simple-e.auto.tokens c.simple-e.auto.scratch _ _ _ _ c.loop-k.invariant.2 (c.descend-low.result.count - c.loop-k.k) (omega (arith, c.loop-k.invariant.1)) (omega arith) _ c.spine_at-l.ensures _ c.line_at-n.ensures (goes_no _ _ _ _ _ (sym c.goes_right.ensures ∙ w.if-goes_right.false)),

@@ -2,7 +2,7 @@
 use mathlib.Core.Path.{refl, ◌∙◌}
 use native.Mathlib.Omega.{arith}
 use Rattle.checks.proofs.FieldLaws.{back}
-use Rattle.engine.proofs.Steps.{placed, state_of, place_of, tests}
+use Rattle.engine.proofs.Steps.{state_of, place_of, tests}
 use Rattle.engine.proofs.LineSteps.{whole, few}
 use Rattle.engine.proofs.TerminalSteps.{tag_low, leaf_of, end_15, end_16, end_17, end_19}
 use Rattle.engine.proofs.parser_state.terminal.Goals as goal

@@ -1,11 +1,7 @@
 -- The queue is cut, is short already, or is not the rule's.
-use mathlib.Core.Path.{refl, ◌≡◌, ap, sym, ◌∙◌}
-use mathlib.Core.Bool.{true}
-use mathlib.Core.List.{List}
+use mathlib.Core.Path.{sym, ◌∙◌}
 use Prim.Native.Nat.{ℕ}
-use Rattle.matching.specs.declared.position.TokenIndex.{TokenIndex}
 use Rattle.engine.specs.declared.parser_state.ParserState.{ParserState}
-use Rattle.reading.specs.Pest.{produces}
 use Rattle.engine.specs.Areas.{view, queue_of}
 use Rattle.engine.proofs.TokenLaws.{queue_take, queue_length}
 use Rattle.engine.proofs.RuleLaws.{drop_some, drop_none, drop_off}
@@ -23,7 +19,7 @@ pub returns-else-produces : goal.returns-else-produces
 returns-else-produces c =
     let s : ParserState = c.args.s.now in
     elim c.else-produces.branch [
-      else-produces-via-then-produces+else-index-s w ↦
-        λ tokens scratch. drop_none c.args.index.0 (view tokens scratch s) (sym (c.produces.ensures tokens scratch) ∙ w.if-produces.true) (omega (arith, queue_length tokens s.queue.0, w.if-index-s.false))
-    | else-produces-via-else-produces w ↦ λ tokens scratch. drop_off c.args.index.0 (view tokens scratch s) (sym (c.produces.ensures tokens scratch) ∙ w.if-produces.false)
+      | else-produces-via-then-produces+else-index-s w ↦
+          λ tokens scratch. drop_none c.args.index.0 (view tokens scratch s) (sym (c.produces.ensures tokens scratch) ∙ w.if-produces.true) (omega (arith, queue_length tokens s.queue.0, w.if-index-s.false))
+      | else-produces-via-else-produces w ↦ λ tokens scratch. drop_off c.args.index.0 (view tokens scratch s) (sym (c.produces.ensures tokens scratch) ∙ w.if-produces.false)
     ]

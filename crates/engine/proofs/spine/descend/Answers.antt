@@ -1,5 +1,4 @@
 -- Each turn goes one left side further down; the measure is the line.
-use native.Mathlib.Omega.{arith}
 use borrow.Author.Rules.{rules}
 use mathlib.Core.Path.{ap}
 use mathlib.Core.Bool.{not}

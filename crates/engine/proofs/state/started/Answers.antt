@@ -1,6 +1,5 @@
 -- The evaluation of the root from the first state, and its end.
 use mathlib.Core.Path.{refl, sym}
-use native.Mathlib.Omega.{arith}
 use lib.ListN.{length}
 use Rattle.reading.specs.Outcome.{Input}
 use Rattle.reading.specs.Run.{input}
