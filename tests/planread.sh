@@ -157,7 +157,7 @@ EOF
     try "a build that fails" "${stand_in[@]}" BREAK=1 "$repository/planread" "$first"
     ends 1 && prints_nothing && says "fn matching::utf8: proved" && says "could not be built"
     try "a build" "${stand_in[@]}" BREAK= "$repository/planread" "$first"
-    ends 0 && says "crate 2 of 8, reading: 0:0" && says "; the longest was matching, 0:0" && says_not "fn matching"
+    ends 0 && says "crate 2 of 7, reading: 0:0" && says "; the longest was matching, 0:0" && says_not "fn matching"
     [ "$(cat "$work/out")" = listing ] || fail "it should run the program that was built"
     grep -q "fn matching::utf8: proved" "$repository/target/planread.log" || fail "it should keep what rt said"
     rm "$work/mark"

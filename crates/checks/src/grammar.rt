@@ -134,7 +134,7 @@ fn is_name(field: Option<usize>) -> bool
 }
 
 // Whether the fields of the line fit its kind, by the table's rows.
-// Kept: a table, and no `match` on the kind: nullable.rt says why, and here twice as many answers would be asked for.
+// Kept: a table, and no `match` on the kind: nullable.rt says what was tried; the rows stand as in document 01's table.
 fn fields_fit(nodes: &[i32], literals: &[u8], line: usize) -> bool
     requires line_inside { (1 ≤ line) × (line * 4 ≤ length nodes.now) }
     requires literals_utf8 { is_utf8 literals.now ≡ true }

@@ -33,8 +33,8 @@ pub(crate) struct Setting<'i> {
     pub room: usize,
 }
 
-// pest's `ParserState` but for its Vecs: their elements stand in the lent areas, and here how many there are. Like pest's Box it stays in
-// one place through a run, so that no function copies it.
+// pest's `ParserState`. Like pest's Box it stays in one place through a run, so that no function copies it.
+// Kept: counts, and no Vecs: "Vec becomes lent areas", and the elements stand there.
 #[derive(Clone, Copy)]
 pub(crate) struct ParserState {
     pub position: BytePosition,
@@ -135,10 +135,11 @@ fn terminal(
 }
 
 // ── The evaluation: the combinators and `node` call one another. Each call of `node` has less depth left, or a lower line. `s` is the
-// state (fields.rt), `room` how many tokens the area has room for, `depth` how many more calls may be open. ──
+// state, `depth` how many more calls may be open. ──
+// Kept: `tokens`, `scratch` and `s` stand beside each other. A struct that holds a lent `&mut` area would ask of each function that is
+// handed it a clause that the area is still the same one.
 
 // The line. `packed_node` is the one call that the compiler leaves in the cycle, and its number becomes the ending here, at each caller.
-// (`[..]`: a slice that is handed on as it is is copied in one piece, and the copy waits until its two words are written.)
 #[cycle(evaluation)]
 fn node(
     g: &Setting,
@@ -218,6 +219,8 @@ fn left_side(
 }
 
 // A line that is no fork.
+// Kept: a `match` on the kind's number: document 01's table numbers the kinds, and C hands the numbers in; the arms go on to functions of
+// one cycle, which no table of functions can name.
 #[cycle(evaluation)]
 fn simple(
     g: &Setting,

@@ -95,6 +95,7 @@ fn settle_at(tokens: &mut [u32], i: usize)
 }
 
 // The same for the first n tokens.
+// Kept: by the index, and no `chunks_exact_mut`, which does not say what the area then holds.
 fn settle(tokens: &mut [u32], n: usize)
     requires { n * 5 ≤ length tokens.old }
     ensures { SettledTo n n tokens.old tokens.new }

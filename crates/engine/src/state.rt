@@ -12,6 +12,7 @@ use checks::grammar::{Refused, refusal};
 use checks::packed::unpacked;
 
 // What a run and a sheet reading return: document 01, "Each returns number, place, count".
+// Kept: numbers, and no Result: they are what document 01's table and C's interface give.
 #[derive(Clone, Copy)]
 pub struct Outcome {
     pub number: u32,
@@ -67,6 +68,7 @@ fn started<'a>(
 }
 
 // Document 01's run. A refused one leaves all areas.
+// Kept: each input and each area on its own, as C's interface hands them in.
 pub fn run<'a>(
     nodes: &[i32],
     literals: &'a [u8],

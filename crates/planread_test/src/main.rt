@@ -2,7 +2,9 @@
 // all numbers that planread can print: not 3, 8, 9 and 11, since its areas and limits are always good.
 #![tactic(auto)]
 
-use printing::{Paths, print_files, print_folder};
+mod print;
+
+use crate::print::{Paths, print_files, print_folder};
 use std::rt::Runtime;
 use std::{fs, io};
 

@@ -315,13 +315,6 @@ module _ (ns : List ℤ) (literals : List ℕ) (g : Accepted ns literals) (l : �
   pub tree_kind : (k : ℕ) → kind_at ns l ≡ k → tree_at ns literals l ≡ get_or (tree_rows literals (tree_at ns literals) l (node_at ns l)) (k - 1) end_of_input
   tree_kind k q = tree_row ∙ ap (λ (j : ℕ). get_or (tree_rows literals (tree_at ns literals) l (node_at ns l)) (j - 1) end_of_input) q
 
-  -- `tree_kind` computes: kinds 6 and 20.
-  pub tree_6 : kind_at ns l ≡ 6 → tree_at ns literals l ≡ and_then (tree_at ns literals (natural (node_at ns l).a)) (tree_at ns literals (natural (node_at ns l).b))
-  tree_6 q = tree_kind 6 q
-
-  pub tree_20 : kind_at ns l ≡ 20 → tree_at ns literals l ≡ call (natural (node_at ns l).a)
-  tree_20 q = tree_kind 20 q
-
 -- ── What holds of every line's tree, by induction over the lines ──
 module _ (ns : List ℤ) (literals : List ℕ) (g : Accepted ns literals) where
   module _ (P : ℕ → Type 0) (step : (l : ℕ) → In ns l → ((x : ℕ) → Lower l x → P x) → P l) where
@@ -436,14 +429,6 @@ module _ (ns : List ℤ) (literals : List ℕ) (g : Accepted ns literals) (set :
       let w : Lower l (natural (node_at ns l).b) = body_lower ns literals g l r in
       tree_still (natural (node_at ns l).b) (w.low, omega (arith, w.high, r.high))
       ∙ sym (nullable_is ns l r.low r.high ∙ ap (λ (k : ℕ). get_or (still_rows (eqb (natural (node_at ns l).a) 0) (eqb (natural (node_at ns l).b) 0) (nullable ns (natural (node_at ns l).a)) (nullable ns (natural (node_at ns l).b))) (k - 1) false) r.kind_is)
-
--- The same of the set itself.
-module _ (ns : List ℤ) (literals : List ℕ) (g : Accepted ns literals) where
-  pub nullable_tree : (l : ℕ) → In ns l → still (nullable ns) (tree_at ns literals l) ≡ nullable ns l
-  nullable_tree = tree_still ns literals g (nullable ns) (λ l r. refl)
-
-  pub steady_tree : (l : ℕ) → Steady (nullable ns) (tree_at ns literals l)
-  steady_tree = tree_steady ns literals g (nullable ns) (λ l r. refl)
 
 -- The set for laws that speak of every number as a line: a rule as the set says, any other line may.
 abbrev pub rule_still : List ℤ → ℕ → Bool

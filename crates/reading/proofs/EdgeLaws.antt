@@ -78,14 +78,6 @@ module _ (x : List ℕ) (n : ℕ) where
 
 -- ── A part between two edges ──
 module _ (x : List ℕ) (o n : ℕ) where
-  pub part_no : {b : Bool} → b ≡ edge x o → b ≡ false → false ≡ (edge x o && edge x (o + n))
-  part_no e f = let z : edge x o ≡ false = sym e ∙ f in rw z
-
-  pub part_short : {b : Bool} → b ≡ edge x o → b ≡ true → length x - o < n → false ≡ (edge x o && edge x (o + n))
-  part_short e f h =
-      let z : edge x o ≡ true = sym e ∙ f in
-      rw z (edge_out x (o + n) (omega (arith, edge_inside x o z)))
-
   pub part_is : {b r : Bool} → b ≡ edge x o → b ≡ true → r ≡ edge x (o + n) → r ≡ (edge x o && edge x (o + n))
   part_is e f g = let z : edge x o ≡ true = sym e ∙ f in rw z g
 

@@ -27,6 +27,7 @@ pub enum Cause {
 }
 
 // "Evaluation ends Ok, Err, or in a stop that names its cause." The state that Ok and Err left stands where it was lent.
+// Kept: three cases, and no Result: document 01 names this form, an ending enum whose stop holds the cause enum with its line.
 #[derive(Clone, Copy)]
 pub enum Ending {
     Ok,

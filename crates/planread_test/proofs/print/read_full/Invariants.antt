@@ -1,7 +1,7 @@
 -- What is read stays within the buffer, and is what the reader gave since the loop began: the measure is the room left.
 use Rattle.std.proofs.Common.{length, take, ◌-◌, ◌≤◌}
 use Rattle.std.specs.Io.KnownBytes.{Consumes}
-use Rattle.printing.proofs.read_full.Given as goal
+use Rattle.planread_test.proofs.print.read_full.Given as goal
 
 abbrev pub invariant-loop-done : goal.invariant-loop-done
 invariant-loop-done g l =

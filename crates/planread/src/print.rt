@@ -1,6 +1,6 @@
-// Reads three files by their names and prints their listing: what planread does, in a library, so that planread_test runs the same.
-#![tactic(auto)]
-
+// Reads three files by their names and prints their listing.
+// Kept: this file stands twice, in planread and in planread_test, and the gate compares the two. As a library its functions would be public
+// without a contract: no clause can say what a file holds or what was written.
 ghost use Rattle.std.specs.Prelude.{◌≤◌, length, take};
 ghost use Rattle.std.specs.Io.KnownBytes.{Consumes};
 
@@ -11,7 +11,7 @@ use std::{fs, io};
 
 // Where the three files stand.
 #[derive(Clone, Copy)]
-pub struct Paths<'a> {
+pub(crate) struct Paths<'a> {
     pub sheet: &'a str,
     pub literals: &'a str,
     pub text: &'a str,
@@ -47,7 +47,7 @@ fn load<'a>(rt: &impl Files, path: &str, buf: &'a mut [u8]) -> &'a [u8]
 
 // 199,897 bytes hold every listing (`whole_listing`, files/proofs/ListedLaws). One that cannot be written whole is told of, and the error
 // is handed on. Nothing is promised: no clause can say what a file holds or what was written (docs/DECISIONS.md, 31).
-pub fn print_files(rt: &(impl Files + Print + Eprint), paths: Paths<'_>) -> io::Result<()> {
+pub(crate) fn print_files(rt: &(impl Files + Print + Eprint), paths: Paths<'_>) -> io::Result<()> {
     let mut sheet = [0u8; 65536];
     let mut literals = [0u8; 65536];
     let mut text = [0u8; 65536];
@@ -66,7 +66,7 @@ pub fn print_files(rt: &(impl Files + Print + Eprint), paths: Paths<'_>) -> io::
 }
 
 // The three files of the folder that the program is run in.
-pub fn print_folder(rt: &(impl Files + Print + Eprint)) -> io::Result<()> {
+pub(crate) fn print_folder(rt: &(impl Files + Print + Eprint)) -> io::Result<()> {
     print_files(
         rt,
         Paths {

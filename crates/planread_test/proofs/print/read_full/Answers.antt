@@ -2,8 +2,8 @@
 use Rattle.std.proofs.Common.{rules, length, ◌-◌, subst}
 use Rattle.std.proofs.KnownBytes.{Consumes-trans}
 use Rattle.std.specs.Io.KnownBytes.{Consumes}
-use Rattle.printing.proofs.Filled.{filled}
-use Rattle.printing.proofs.read_full.Goals as goal
+use Rattle.planread_test.proofs.Filled.{filled}
+use Rattle.planread_test.proofs.print.read_full.Goals as goal
 
 pub loop-done-preserved : goal.loop-done-preserved
 loop-done-preserved g c =
