@@ -19,9 +19,7 @@ pub(crate) fn checkpoint(scratch: &mut [u32], s: &mut ParserState)
     ensures state_after { (tokens : List ℕ) → view tokens scratch.new s.new ≡ checkpoint (view tokens scratch.old s.old) }
     ensures outside_stack { OutsideStack scratch.old scratch.new }
 {
-    let v = s.stack;
-    let w = snapshot(scratch, v);
-    s.stack = w;
+    s.stack = snapshot(scratch, s.stack);
 }
 
 pub(crate) fn checkpoint_ok(scratch: &mut [u32], s: &mut ParserState)
@@ -29,9 +27,7 @@ pub(crate) fn checkpoint_ok(scratch: &mut [u32], s: &mut ParserState)
     ensures state_after { (tokens : List ℕ) → view tokens scratch.new s.new ≡ checkpoint_ok (view tokens scratch.old s.old) }
     ensures outside_stack { OutsideStack scratch.old scratch.new }
 {
-    let v = s.stack;
-    let w = clear_snapshot(scratch, v);
-    s.stack = w;
+    s.stack = clear_snapshot(scratch, s.stack);
 }
 
 pub(crate) fn restored(scratch: &mut [u32], s: &mut ParserState)
@@ -39,9 +35,7 @@ pub(crate) fn restored(scratch: &mut [u32], s: &mut ParserState)
     ensures state_after { (tokens : List ℕ) → view tokens scratch.new s.new ≡ restored (view tokens scratch.old s.old) }
     ensures outside_stack { OutsideStack scratch.old scratch.new }
 {
-    let v = s.stack;
-    let w = restore(scratch, v);
-    s.stack = w;
+    s.stack = restore(scratch, s.stack);
 }
 
 // The position after a match, or the same with Err.
@@ -68,9 +62,7 @@ pub(crate) fn stack_push_end(
     ensures state_after { (text : List ℕ) → (tokens : List ℕ) → view_end tokens scratch.new s.new result ≡ push_end text true line start.0 (Ok (view tokens scratch.old s.old)) }
     ensures outside_stack { OutsideStack scratch.old scratch.new }
 {
-    let v = s.stack;
-    let p = s.position;
-    match push(scratch, v, start.0 as u32, p.0 as u32) {
+    match push(scratch, s.stack, start.0 as u32, s.position.0 as u32) {
         Some(w) => {
             s.stack = w;
             Ending::Ok
@@ -85,9 +77,8 @@ pub(crate) fn stack_pop(text: &[u8], scratch: &mut [u32], s: &mut ParserState, l
     ensures state_after { (tokens : List ℕ) → view_end tokens scratch.new s.new result ≡ stack_pop text.now true line (stack_of scratch.old s.old.stack).cache (view tokens scratch.old s.old) }
     ensures outside_stack { OutsideStack scratch.old scratch.new }
 {
-    let v = s.stack;
     let p = s.position;
-    match pop(scratch, v) {
+    match pop(scratch, s.stack) {
         Ok((w, x)) => {
             s.stack = w;
             moved(s, match_string(text, p, as_bytes(text, x)))
@@ -136,9 +127,7 @@ pub(crate) fn stack_match_pop(
     ensures state_after { (tokens : List ℕ) → view_end tokens scratch.new s.new result ≡ stack_match_pop text.now true line (stack_of scratch.old s.old.stack).cache s.old.position.0 (view tokens scratch.old s.old) }
     ensures outside_stack { OutsideStack scratch.old scratch.new }
 {
-    let v = s.stack;
-    let p = s.position;
-    match match_pop(text, scratch, v, p) {
+    match match_pop(text, scratch, s.stack, s.position) {
         Some((w, m)) => {
             s.stack = w;
             moved(s, m)
