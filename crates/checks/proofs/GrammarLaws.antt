@@ -1,34 +1,33 @@
--- The table of kinds as the code reads it: each test of a field is the table's test of the signed number, and the code's twenty rows are
--- the definition's.
-use mathlib.Core.Path.{◌≡◌, refl, sym, ap, ap₂, ◌∙◌}
+-- The table of kinds as the code reads it: pest's boundaries are a text's character edges, and the code's twenty rows are the definition's.
+use mathlib.Core.Path.{◌≡◌, refl, sym, ◌∙◌}
 use mathlib.Core.Bool.{Bool, true, false, ◌&&◌, ◌||◌}
 use mathlib.Core.List.{List, [], ◌∷◌}
-use Prim.Native.Nat.{ℕ, ◌-◌, ◌*◌, ◌≤◌, ◌<◌}
-use native.Mathlib.Omega.{arith}
-use borrow.Author.Tests.{eqb-true, eqb-false, lt-ltb, le-ltb}
-use lib.Dec.{eqb, ltb}
-use lib.IntN.{ℤ, pos, negsuc}
-use lib.ListN.{length, get_or}
-use Rattle.matching.specs.Utf8.{is_utf8}
+use Prim.Native.Nat.{ℕ, ◌-◌}
+use borrow.Author.Tests.{le-leb}
+use lib.IntN.{ℤ}
+use lib.ListN.{length, drop}
+use Rattle.matching.specs.Utf8.{is_utf8, Edge}
 use Rattle.reading.specs.Grammar.{row, between, nil, scalar, count, name, edge, literal_part, called, fields_fit}
-use Rattle.reading.proofs.EdgeLaws.{edge_out, edge_end, edge_at}
-
+use Rattle.reading.proofs.EdgeLaws.{edge_inside, edge_whole}
+use Rattle.matching.proofs.Boundary.{boundary_edge, edge_boundary}
+use Rattle.matching.proofs.Characters.{is_utf8_iff}
+use Rattle.matching.specs.Position.{is_char_boundary}
 
 -- ── Character edges ──
-module _ (x : List ℕ) (n : ℕ) where
-  pub edge_from_end : length x ≤ n → eqb (length x) n ≡ edge x n
-  edge_from_end h = go (eqb (length x) n) refl
-    where
-      go : (b : Bool) → eqb (length x) n ≡ b → b ≡ edge x n
-      go true e = edge_end x n (eqb-true (length x) n e)
-      go false e = edge_out x n (omega (arith, eqb-false (length x) n e))
+both : (x y : Bool) → (x ≡ true → y ≡ true) → (y ≡ true → x ≡ true) → x ≡ y
+both true y f g = sym (f refl)
+both false true f g = g refl
+both false false f g = refl
 
-  module _ (u : is_utf8 x ≡ true) (h : n < length x) where
-    pub edge_low : get_or x n 0 < 0x80 → ltb (get_or x n 0) 0x80 ≡ edge x n
-    edge_low l = let e : ltb (get_or x n 0) 0x80 ≡ true = lt-ltb (get_or x n 0) 0x80 l in e ∙ rw e at (edge_at x n u h)
-
-    pub edge_high : 0x80 ≤ get_or x n 0 → ltb 0xBF (get_or x n 0) ≡ edge x n
-    edge_high l = let e : ltb (get_or x n 0) 0x80 ≡ false = le-ltb (get_or x n 0) 0x80 l in rw e at (edge_at x n u h)
+-- In a UTF-8 text pest's boundaries are the edges.
+pub boundary_is : (x : List ℕ) (n : ℕ) → is_utf8 x ≡ true → is_char_boundary x n ≡ edge x n
+boundary_is x n u = both (is_char_boundary x n) (edge x n) to_edge
+    (λ e. edge_boundary x n (record { inside = edge_inside x n e; whole = edge_whole x n e }))
+  where
+    to_edge : is_char_boundary x n ≡ true → edge x n ≡ true
+    to_edge e =
+        let s : Edge x n = boundary_edge x n ((is_utf8_iff x).0 u) e in
+        rw (le-leb n (length x) s.inside) ((is_utf8_iff (drop n x)).1 s.whole)
 
 -- ── The rows ──
 -- The table over the tests that its rows are made of.
@@ -51,7 +50,7 @@ pub rows_fit : (ns : List ℤ) (literals : List ℕ) (l : ℕ) {k a b c k' a' b'
     → name_a ≡ name a' → rule_a ≡ called ns literals a'
     → positive ≡ between 0 1 b' → atomicity ≡ between 0 2 b' → with_end ≡ between 0 1 c' → without ≡ between 2 3 c'
     → row (rows_of literal scalar_a scalar_b count_a nil_a nil_b nil_c lower_a lower_b name_a rule_a positive atomicity with_end without) false k'
-      ≡ fields_fit ns literals l (record { kind = k; a = a; b = b; c = c })
+    ≡ fields_fit ns literals l (record { kind = k; a = a; b = b; c = c })
 unfolding fields_fit
 rows_fit ns literals l {k' = k'} ek ea eb ec e₁ e₂ e₃ e₄ e₅ e₆ e₇ e₈ e₉ f₁ f₂ f₃ f₄ f₅ f₆ =
     (λ i. row (rows_of (e₁ i) (e₂ i) (e₃ i) (e₄ i) (e₅ i) (e₆ i) (e₇ i) (e₈ i) (e₉ i) (f₁ i) (f₂ i) (f₃ i) (f₄ i) (f₅ i) (f₆ i)) false k')

@@ -9,6 +9,7 @@ ghost use Rattle.checks.specs.Lines.{node_of, line_misfits};
 
 use crate::node::{Node, natural_of, node_at, row_of};
 use crate::nullable::still_repeat;
+use matching::position::Position;
 use matching::utf8::is_utf8;
 
 // Why a run is refused: document 01's refusals 4 to 9, with the line where one is named.
@@ -83,16 +84,11 @@ struct Literals<'a> {
 }
 
 impl Literals<'_> {
-    // Whether whole characters follow a place: there the text ends, or a byte stands that is no tail.
+    // Whether whole characters follow a place.
     fn is_edge(self, at: usize) -> bool
         ensures { result ≡ edge self.entry.bytes.now at }
     {
-        let text = self.bytes;
-        if text.len() <= at {
-            return text.len() == at;
-        }
-        let b = text[at];
-        b < 0x80 || 0xBF < b
+        Position::new(self.bytes, at).is_some()
     }
 
     // Whether `size` bytes from `offset` on stand in the text, on character edges.
@@ -114,7 +110,7 @@ fn literal_fits(literals: Literals<'_>, a: i32, b: i32) -> bool
 fn calls_rule(nodes: &[i32], a: i32) -> bool
     ensures { result ≡ called nodes.now [] a }
 {
-    between(a, 1, nodes.len() / 4) && natural_of(node_at(nodes, natural_of(a)).kind) == 8
+    between(a, 1, nodes.len() / 4) && node_at(nodes, natural_of(a)).kind == 8
 }
 
 // Whether a field is 0, as those that the table does not name are.
