@@ -76,7 +76,7 @@ fn is_count(field: i32) -> bool
     0 <= field
 }
 
-// A literal text that passed test 4.
+// A literal text that passed test 4: made where that test is, so that no later function asks for UTF-8.
 #[derive(Clone, Copy)]
 struct Literals<'a> {
     bytes: &'a [u8],
@@ -106,7 +106,7 @@ fn literal_fits(literals: Literals<'_>, a: i32, b: i32) -> bool
     is_count(a) && is_count(b) && literals.has_part(a as usize, b as usize)
 }
 
-// Whether a field names a line of kind 8: a rule.
+// Whether a field names a line of kind 8: a rule. (The definition is handed a literal text too, and doesn't look at it.)
 fn calls_rule(nodes: &[i32], a: i32) -> bool
     ensures { result ≡ called nodes.now [] a }
 {

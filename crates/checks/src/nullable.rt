@@ -85,10 +85,7 @@ fn first_repeat(nodes: &[i32], flags: &[bool]) -> Option<u32>
     requires { (length flags.now * 4 ≤ length nodes.now) × (length flags.now ≤ 4096) }
     ensures { result ≡ first_line (λ l. flagged_repeat flags.now (node_at nodes.now l)) 1 (length flags.now) }
 {
-    (1..flags.len() as u32 + 1).find(|line| repeat_stands_still(
-        node_at(nodes, *line as usize),
-        flags,
-    ))
+    (1..flags.len() as u32 + 1).find(|l| repeat_stands_still(node_at(nodes, *l as usize), flags))
 }
 
 // The first repeat whose body may stand still.
