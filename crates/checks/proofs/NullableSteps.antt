@@ -3,23 +3,25 @@
 use mathlib.Core.Path.{◌≡◌, refl, sym, ap, ◌∙◌}
 use mathlib.Core.Bool.{Bool, true, false, ◌||◌, true≢false}
 use mathlib.Core.List.{List, ◌∷◌}
-use Prim.Native.Nat.{ℕ, zero, suc, ◌+◌, ◌-◌, ◌*◌, ◌≤◌}
+use Prim.Native.Nat.{ℕ, zero, suc, ◌+◌, ◌≤◌}
 use native.Mathlib.Omega.{arith}
 use lib.ListN.{length, get_or, set, take, replicate}
 use lib.Seq.{length-take-le}
 use lib.Dec.{eqb}
-use lib.IntN.{ℤ, pos}
-use Rattle.reading.specs.Grammar.{row, natural, node_at, kind_at}
+use lib.IntN.{ℤ}
+use Rattle.reading.specs.Grammar.{Node, row, natural, node_at}
 use Rattle.reading.specs.Nullable.{still_rows, stands_still, flag, raised}
 use Rattle.reading.proofs.NullableLaws.{still_of}
 
 -- ── One line, as the code reads it ──
-module _ (s : ℕ → Bool) (ns : List ℤ) (l : ℕ) {kind a b : ℕ}
-    (ek : kind ≡ kind_at ns l)
-    (ea : a ≡ natural (get_or ns (l * 4 - 3) (pos 0))) (eb : b ≡ natural (get_or ns (l * 4 - 2) (pos 0))) where
-  pub line_rows : row (still_rows (eqb a 0) (eqb b 0) (s a) (s b)) false (pos kind) ≡ stands_still s (node_at ns l)
-  unfolding stands_still node_at
-  line_rows = λ i. row (still_rows (eqb (ea i) 0) (eqb (eb i) 0) (s (ea i)) (s (eb i))) false (pos (ek i))
+pub line_rows : (s : ℕ → Bool) (n : Node) {k za zb : ℤ} → k ≡ n.kind → za ≡ n.a → zb ≡ n.b
+    → {a b : ℕ} → a ≡ natural za → b ≡ natural zb
+    → row (still_rows (eqb a 0) (eqb b 0) (s a) (s b)) false k ≡ stands_still s n
+unfolding stands_still
+line_rows s n ek za zb ea eb =
+    let fa = ea ∙ ap natural za in
+    let fb = eb ∙ ap natural zb in
+    λ i. row (still_rows (eqb (fa i) 0) (eqb (fb i) 0) (s (fa i)) (s (fb i))) false (ek i)
 
 -- ── A part of the flags, worked on and put back ──
 pub part_length : (n : ℕ) (f : List Bool) → n ≤ length f → n ≡ length (take n f)

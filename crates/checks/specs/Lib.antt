@@ -1,4 +1,4 @@
-pub mod FieldTests
+pub mod Lines
 pub mod Packed
 pub mod Refusals
 pub mod Tracker

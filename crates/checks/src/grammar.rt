@@ -1,13 +1,15 @@
 // The table of kinds (refusal 5).
-ghost use Rattle.std.specs.Prelude.{◌≡◌, true, ◌&&◌, ◌+◌, ◌-◌, ◌*◌, ◌≤◌, length};
+ghost use Rattle.std.specs.Prelude.{◌≡◌, true, [], ◌&&◌, ◌+◌, ◌-◌, ◌*◌, ◌≤◌, length};
 ghost use Rattle.matching.specs.Utf8.{is_utf8};
-ghost use Rattle.reading.specs.Grammar.{line_count, node_at, kind_at, edge, fields_fit, line_fits, first_line, misfit};
+ghost use Rattle.reading.specs.Grammar.{between, scalar, count, literal_part, called, nil, name};
+ghost use Rattle.reading.specs.Grammar.{line_count, edge, fields_fit, line_fits, first_line, misfit};
 ghost use Rattle.reading.specs.Outcome.{good_text, first_of, refusal_on};
 ghost use Rattle.checks.specs.Refusals.{refusal_of, refused_of, grammar_tests, later_tests};
-ghost use Rattle.checks.specs.FieldTests.{in_range, part_in, scalar_in, rule_in, line_misfits};
+ghost use Rattle.checks.specs.Lines.{node_of, line_misfits};
 
-use crate::node::{field_at, kind_at, row_of};
+use crate::node::{Node, natural_of, node_at, row_of};
 use crate::nullable::still_repeat;
+use matching::position::Position;
 use matching::utf8::is_utf8;
 
 // Why a run is refused: document 01's refusals 4 to 9, with the line where one is named.
@@ -54,95 +56,90 @@ impl Refused {
 }
 
 // Whether a field lies from `low` to `high`.
-fn between(field: Option<usize>, low: usize, high: usize) -> bool
-    ensures { result ≡ in_range low high field }
+fn between(field: i32, low: usize, high: usize) -> bool
+    ensures { result ≡ between low high field }
 {
-    match field {
-        Some(n) => low <= n && n <= high,
-        None => false,
-    }
+    usize::try_from(field).is_ok_and(|n| low <= n && n <= high)
 }
 
 // Whether a field is a Unicode scalar value: no surrogate.
-fn is_scalar(field: Option<usize>) -> bool
-    ensures { result ≡ scalar_in field }
+fn is_scalar(field: i32) -> bool
+    ensures { result ≡ scalar field }
 {
     between(field, 0, 0xD7FF) || between(field, 0xE000, 0x10FFFF)
 }
 
-// Whether whole characters follow a place of a UTF-8 text: there it ends, or a byte stands that is no tail.
-fn is_edge(text: &[u8], at: usize) -> bool
-    requires { is_utf8 text.now ≡ true }
-    ensures { result ≡ edge text.now at }
+// Whether a field is a count: 0 or more.
+fn is_count(field: i32) -> bool
+    ensures { result ≡ count field }
 {
-    if text.len() <= at {
-        return text.len() == at;
-    }
-    let b = text[at];
-    b < 0x80 || 0xBF < b
+    0 <= field
 }
 
-// Whether `size` bytes from `offset` on stand in the text, on character edges.
-fn part_fits(text: &[u8], offset: usize, size: usize) -> bool
-    requires { is_utf8 text.now ≡ true }
-    ensures { result ≡ (edge text.now offset && edge text.now (offset + size)) }
-{
-    is_edge(text, offset) && size <= text.len() - offset && is_edge(text, offset + size)
+// A literal text that passed test 4: made where that test is, so that no later function asks for UTF-8.
+#[derive(Clone, Copy)]
+struct Literals<'a> {
+    bytes: &'a [u8],
+    ghost whole: { is_utf8 bytes.now ≡ true },
+}
+
+impl Literals<'_> {
+    // Whether whole characters follow a place.
+    fn is_edge(self, at: usize) -> bool
+        ensures { result ≡ edge self.entry.bytes.now at }
+    {
+        Position::new(self.bytes, at).is_some()
+    }
+
+    // Whether `size` bytes from `offset` on stand in the text, on character edges.
+    fn has_part(self, offset: usize, size: usize) -> bool
+        ensures { result ≡ (edge self.entry.bytes.now offset && edge self.entry.bytes.now (offset + size)) }
+    {
+        self.is_edge(offset) && size <= self.bytes.len() - offset && self.is_edge(offset + size)
+    }
 }
 
 // Whether two fields name a part of the literal text.
-fn literal_fits(literals: &[u8], a: Option<usize>, b: Option<usize>) -> bool
-    requires { is_utf8 literals.now ≡ true }
-    ensures { result ≡ part_in literals.now a b }
+fn literal_fits(literals: Literals<'_>, a: i32, b: i32) -> bool
+    ensures { result ≡ literal_part literals.entry.bytes.now a b }
 {
-    match (a, b) {
-        (Some(offset), Some(size)) => part_fits(literals, offset, size),
-        _ => false,
-    }
+    is_count(a) && is_count(b) && literals.has_part(a as usize, b as usize)
 }
 
-// Whether a field names a line of kind 8: a rule.
-fn calls_rule(nodes: &[i32], a: Option<usize>) -> bool
-    ensures { result ≡ rule_in nodes.now a }
+// Whether a field names a line of kind 8: a rule. (The definition is handed a literal text too, and doesn't look at it.)
+fn calls_rule(nodes: &[i32], a: i32) -> bool
+    ensures { result ≡ called nodes.now [] a }
 {
-    match a {
-        Some(line) => 1 <= line && line <= nodes.len() / 4 && kind_at(nodes, line) == 8,
-        None => false,
-    }
+    between(a, 1, nodes.len() / 4) && node_at(nodes, natural_of(a)).kind == 8
 }
 
 // Whether a field is 0, as those that the table does not name are.
-fn is_nil(field: Option<usize>) -> bool
-    ensures { result ≡ in_range 0 0 field }
+fn is_nil(field: i32) -> bool
+    ensures { result ≡ nil field }
 {
-    between(field, 0, 0)
+    field == 0
 }
 
 // Whether a field names a line lower than this one.
-fn is_lower(field: Option<usize>, line: usize) -> bool
-    requires { 1 ≤ line }
-    ensures { result ≡ in_range 1 (line - 1) field }
+fn is_lower(field: i32, line: usize) -> bool
+    ensures { result ≡ between 1 (line - 1) field }
 {
-    between(field, 1, line - 1)
+    between(field, 1, line.saturating_sub(1))
 }
 
 // Whether a field is a rule or a tag.
-fn is_name(field: Option<usize>) -> bool
-    ensures { result ≡ in_range 1 65535 field }
+fn is_name(field: i32) -> bool
+    ensures { result ≡ name field }
 {
     between(field, 1, 65535)
 }
 
-// Whether the fields of the line fit its kind, by the table's rows.
+// Whether the fields of a line fit its kind, by the table's rows.
 // Kept: a table, and no `match` on the kind: nullable.rt says what was tried; the rows stand as in document 01's table.
-fn fields_fit(nodes: &[i32], literals: &[u8], line: usize) -> bool
-    requires line_inside { (1 ≤ line) × (line * 4 ≤ length nodes.now) }
-    requires literals_utf8 { is_utf8 literals.now ≡ true }
-    ensures { result ≡ fields_fit nodes.now literals.now line (node_at nodes.now line) }
+fn fields_fit(nodes: &[i32], literals: Literals<'_>, line: usize, node: Node) -> bool
+    ensures { result ≡ fields_fit nodes.now literals.entry.bytes.now line (node_of node) }
 {
-    let a = field_at(nodes, line * 4 - 3);
-    let b = field_at(nodes, line * 4 - 2);
-    let c = field_at(nodes, line * 4 - 1);
+    let Node { kind, a, b, c } = node;
     let nil_b = is_nil(b);
     let nil_c = is_nil(c);
     let lower_a = is_lower(a, line);
@@ -156,7 +153,7 @@ fn fields_fit(nodes: &[i32], literals: &[u8], line: usize) -> bool
         literal,
         literal,
         is_scalar(a) & is_scalar(b) & nil_c,
-        a.is_some() & nil_b & nil_c,
+        is_count(a) & nil_b & nil_c,
         no,
         two,
         two,
@@ -174,37 +171,36 @@ fn fields_fit(nodes: &[i32], literals: &[u8], line: usize) -> bool
         name_a & nil_b & nil_c,
         calls_rule(nodes, a) & nil_b & nil_c,
     ];
-    row_of(&rows, kind_at(nodes, line))
+    row_of(&rows, kind)
 }
 
 // Whether the line stands in the table.
-pub(crate) fn line_fits(nodes: &[i32], literals: &[u8], line: usize) -> bool
-    requires line_inside { (1 ≤ line) × (line * 4 ≤ length nodes.now) }
-    requires literals_utf8 { is_utf8 literals.now ≡ true }
-    ensures { result ≡ line_fits nodes.now literals.now line }
+fn line_fits(nodes: &[i32], literals: Literals<'_>, line: usize) -> bool
+    requires { (1 ≤ line) × (line * 4 ≤ length nodes.now) }
+    ensures { result ≡ line_fits nodes.now literals.entry.bytes.now line }
 {
-    between(field_at(nodes, line * 4 - 4), 1, 20) && fields_fit(nodes, literals, line)
+    let node = node_at(nodes, line);
+    between(node.kind, 1, 20) && fields_fit(nodes, literals, line, node)
 }
 
-// The first of the lines that does not stand in the table.
-fn first_misfit(nodes: &[i32], literals: &[u8], count: usize) -> Option<u32>
-    requires count_in_bounds { (count * 4 ≤ length nodes.now) × (count ≤ 4096) }
-    requires literals_utf8 { is_utf8 literals.now ≡ true }
-    ensures { result ≡ first_line (line_misfits nodes.now literals.now) 1 count }
+// The first of at most 4,096 lines that does not stand in the table.
+fn first_misfit(nodes: &[i32], literals: Literals<'_>) -> Option<u32>
+    requires { line_count nodes.now ≤ 4096 }
+    ensures { result ≡ first_line (line_misfits nodes.now literals.entry.bytes.now) 1 (line_count nodes.now) }
 {
+    let count = nodes.len() / 4;
     (1..count as u32 + 1).find(|line| !line_fits(nodes, literals, *line as usize))
 }
 
 // Test 5: 0 where the nodes are not 1 to 4,096 fours, else the first line against the table.
-pub(crate) fn misfit(nodes: &[i32], literals: &[u8]) -> Option<u32>
-    requires { is_utf8 literals.now ≡ true }
-    ensures { result ≡ misfit nodes.now literals.now }
+fn misfit(nodes: &[i32], literals: Literals<'_>) -> Option<u32>
+    ensures { result ≡ misfit nodes.now literals.entry.bytes.now }
 {
     let count = nodes.len() / 4;
     if nodes.len() != count * 4 || count < 1 || 4096 < count {
         return Some(0);
     }
-    first_misfit(nodes, literals, count)
+    first_misfit(nodes, literals)
 }
 
 // "over 65,535 bytes or not UTF-8"
@@ -221,7 +217,7 @@ fn grammar_refusal(nodes: &[i32], literals: &[u8]) -> Result<(), Refused>
     if !is_good_text(literals) {
         return Err(Refused::Literals);
     }
-    if let Some(line) = misfit(nodes, literals) {
+    if let Some(line) = misfit(nodes, Literals { bytes: literals }) {
         return Err(Refused::Nodes(line));
     }
     match still_repeat(nodes) {

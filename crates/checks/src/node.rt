@@ -1,9 +1,9 @@
 // The fields of node lines: signed numbers. All signed arithmetic of the grammar stands here.
 ghost use Rattle.std.specs.Prelude.{◌≡◌, ◌||◌, ◌*◌, ◌≤◌, ◌<◌, eqb, ltb, if◌then◌else◌};
 ghost use Rattle.std.specs.Prelude.{false, None, Some, pos, length, get_or};
-ghost use Rattle.reading.specs.Grammar.{natural, kind_at, row};
+ghost use Rattle.reading.specs.Grammar.{natural, node_at, row};
 ghost use Rattle.reading.specs.Reading.{index_in, end_in};
-ghost use Rattle.checks.specs.FieldTests.{field_of};
+ghost use Rattle.checks.specs.Lines.{node_of};
 
 // A field as a natural number: a negative one reads 0.
 pub fn natural_of(x: i32) -> usize
@@ -12,36 +12,35 @@ pub fn natural_of(x: i32) -> usize
     if x < 0 { 0 } else { x as usize }
 }
 
-// A field as a count: a negative one is none.
-pub(crate) fn field_at(nodes: &[i32], i: usize) -> Option<usize>
-    requires { i < length nodes.now }
-    ensures { result ≡ field_of (get_or nodes.now i (pos 0)) }
-{
-    usize::try_from(nodes[i]).ok()
+// A line's four numbers.
+#[derive(Clone, Copy)]
+pub(crate) struct Node {
+    pub kind: i32,
+    pub a: i32,
+    pub b: i32,
+    pub c: i32,
 }
 
-// A field as a natural number, which a negative one is not: it reads 0.
-pub(crate) fn number_at(nodes: &[i32], i: usize) -> usize
-    requires { i < length nodes.now }
-    ensures { result ≡ natural (get_or nodes.now i (pos 0)) }
-{
-    natural_of(nodes[i])
-}
-
-// The kind of a line, numbered from 1.
-pub(crate) fn kind_at(nodes: &[i32], line: usize) -> usize
+// A line, numbered from 1.
+pub(crate) fn node_at(nodes: &[i32], line: usize) -> Node
     requires { (1 ≤ line) × (line * 4 ≤ length nodes.now) }
-    ensures { result ≡ kind_at nodes.now line }
+    ensures { node_of result ≡ node_at nodes.now line }
 {
-    number_at(nodes, line * 4 - 4)
+    Node {
+        kind: nodes[line * 4 - 4],
+        a: nodes[line * 4 - 3],
+        b: nodes[line * 4 - 2],
+        c: nodes[line * 4 - 1],
+    }
 }
 
 // What a table of twenty rows, one for each kind, says of a kind. (As in the definition, kind 0 reads the first row.)
-pub(crate) fn row_of(rows: &[bool; 20], kind: usize) -> bool
+pub(crate) fn row_of(rows: &[bool; 20], kind: i32) -> bool
     requires { length rows.now ≡ 20 }
-    ensures { result ≡ row rows.now false (pos kind) }
+    ensures { result ≡ row rows.now false kind }
 {
-    rows.get(kind.saturating_sub(1)).copied().unwrap_or(false)
+    let row = natural_of(kind).saturating_sub(1);
+    rows.get(row).copied().unwrap_or(false)
 }
 
 // ── The peek index of kind 16 ──

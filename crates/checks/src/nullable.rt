@@ -2,9 +2,9 @@
 ghost use Rattle.std.specs.Prelude.{◌≡◌, false, ◌*◌, ◌+◌, ◌≤◌, ◌<◌, length, replicate};
 ghost use Rattle.reading.specs.Grammar.{node_at, first_line};
 ghost use Rattle.reading.specs.Nullable.{stands_still, flag, raised, swept, rounds, still_repeat};
-ghost use Rattle.checks.specs.FieldTests.{flagged_repeat};
+ghost use Rattle.checks.specs.Lines.{node_of, flagged_repeat};
 
-use crate::node::{kind_at, number_at, row_of};
+use crate::node::{Node, natural_of, node_at, row_of};
 
 // The flag of a line, numbered from 1.
 fn flag_of(flags: &[bool], line: usize) -> bool
@@ -15,12 +15,11 @@ fn flag_of(flags: &[bool], line: usize) -> bool
 
 // Whether the line may stand still, if the flagged lines may.
 // Kept: a table, and no `match` on the kind: tried, and each arm, and each side of each `&&` in it, asked for an answer of its own.
-fn line_stands_still(nodes: &[i32], flags: &[bool], line: usize) -> bool
-    requires { (1 ≤ line) × (line * 4 ≤ length nodes.now) }
-    ensures { result ≡ stands_still (flag flags.now) (node_at nodes.now line) }
+fn line_stands_still(node: Node, flags: &[bool]) -> bool
+    ensures { result ≡ stands_still (flag flags.now) (node_of node) }
 {
-    let field_a = number_at(nodes, line * 4 - 3);
-    let field_b = number_at(nodes, line * 4 - 2);
+    let field_a = natural_of(node.a);
+    let field_b = natural_of(node.b);
     let no_a = field_a == 0;
     let no_b = field_b == 0;
     let a = flag_of(flags, field_a);
@@ -31,7 +30,7 @@ fn line_stands_still(nodes: &[i32], flags: &[bool], line: usize) -> bool
         no_b, no_b, false, no_a, true, both, either, b, a, true, true, true, a, a, true, true,
         true, a, true, a,
     ];
-    row_of(&rows, kind_at(nodes, line))
+    row_of(&rows, node.kind)
 }
 
 // Flags the line at `index`, counted from 0, if it may stand still; whether it was not flagged before and is now.
@@ -43,7 +42,7 @@ fn raise(nodes: &[i32], flags: &mut [bool], index: usize) -> bool
     if flags[index] {
         return false;
     }
-    let raises = line_stands_still(nodes, flags, index + 1);
+    let raises = line_stands_still(node_at(nodes, index + 1), flags);
     flags[index] = raises;
     raises
 }
@@ -75,19 +74,18 @@ fn flag_all(nodes: &[i32], flags: &mut [bool])
 }
 
 // Whether the line is a repeat whose body is flagged.
-fn repeat_stands_still(nodes: &[i32], flags: &[bool], line: usize) -> bool
-    requires { (1 ≤ line) × (line * 4 ≤ length nodes.now) }
-    ensures { result ≡ flagged_repeat nodes.now flags.now line }
+fn repeat_stands_still(node: Node, flags: &[bool]) -> bool
+    ensures { result ≡ flagged_repeat flags.now (node_of node) }
 {
-    kind_at(nodes, line) == 10 && flag_of(flags, number_at(nodes, line * 4 - 3))
+    node.kind == 10 && flag_of(flags, natural_of(node.a))
 }
 
 // The first repeat whose body is flagged.
 fn first_repeat(nodes: &[i32], flags: &[bool]) -> Option<u32>
     requires { (length flags.now * 4 ≤ length nodes.now) × (length flags.now ≤ 4096) }
-    ensures { result ≡ first_line (flagged_repeat nodes.now flags.now) 1 (length flags.now) }
+    ensures { result ≡ first_line (λ l. flagged_repeat flags.now (node_at nodes.now l)) 1 (length flags.now) }
 {
-    (1..flags.len() as u32 + 1).find(|line| repeat_stands_still(nodes, flags, *line as usize))
+    (1..flags.len() as u32 + 1).find(|l| repeat_stands_still(node_at(nodes, *l as usize), flags))
 }
 
 // The first repeat whose body may stand still.
