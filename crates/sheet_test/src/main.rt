@@ -26,6 +26,7 @@ impl fmt::Display for Answer {
 }
 
 // The numbers of a node area, each behind a space.
+// Kept: parser_core_test prints its areas so too. Programs share no code but a library's, and a crate for this loop would be no plainer.
 #[derive(Clone, Copy)]
 struct Numbers<'a>(&'a [i32]);
 
