@@ -8,20 +8,32 @@ use checks::node::{is_top_down, natural_of, normalize_end, normalize_index};
 use checks::packed::{packed, unpacked};
 use reading::call_limit_tracker::LimitKind;
 use reading::parser_state::{Cause, Ending};
-use std::io;
+use std::{fmt, io};
 
 // ── Tests 4 to 9: the number and the place ──
-fn refused(
-    rt: &impl Print,
-    name: &str,
-    nodes: &[i32],
-    literals: &[u8],
-    text: &[u8],
+// What the tests look at.
+#[derive(Clone, Copy)]
+struct Case<'a> {
+    nodes: &'a [i32],
+    literals: &'a [u8],
+    text: &'a [u8],
     depth: u32,
     report: usize,
     scratch: usize,
-) -> io::Result<()> {
-    match refusal(nodes, literals, text, depth, report, scratch) {
+}
+
+// What no test refuses.
+const GOOD: Case<'static> = Case {
+    nodes: &[5, 0, 0, 0],
+    literals: b"",
+    text: b"",
+    depth: 1,
+    report: 515,
+    scratch: 4864,
+};
+
+fn refused(rt: &impl Print, name: &str, c: Case<'_>) -> io::Result<()> {
+    match refusal(c.nodes, c.literals, c.text, c.depth, c.report, c.scratch) {
         Ok(()) => println!(rt; "{name}: none"),
         Err(refused) => println!(rt; "{name}: {} at {}", refused.number(), refused.place()),
     }
@@ -29,70 +41,100 @@ fn refused(
 
 // The grammar and the literal text, all else being good.
 fn grammar(rt: &impl Print, name: &str, nodes: &[i32], literals: &[u8]) -> io::Result<()> {
-    refused(rt, name, nodes, literals, b"a", 1024, 515, 4864)
+    let case = Case {
+        nodes,
+        literals,
+        text: b"a",
+        depth: 1024,
+        ..GOOD
+    };
+    refused(rt, name, case)
 }
 
 fn grammars(rt: &impl Print) -> io::Result<()> {
-    grammar(
-        rt,
-        "M1's grammar",
-        &[1, 0, 1, 0, 8, 7, 1, 0, 19, 3, 0, 0, 6, 2, 3, 0],
-        b"abc",
-    )?;
-    grammar(rt, "literals that are not UTF-8", &[5, 0, 0, 0], b"\xFF")?;
-    grammar(
-        rt,
-        "literals that are not UTF-8, and no nodes",
-        &[],
-        b"\xFF",
-    )?;
-    grammar(rt, "no nodes", &[], b"")?;
-    grammar(rt, "five numbers", &[5, 0, 0, 0, 5], b"")?;
-    grammar(rt, "kind 21", &[5, 0, 0, 0, 21, 0, 0, 0], b"")?;
-    grammar(rt, "a sequence of its own line", &[9, 1, 0, 0], b"")?;
-    grammar(
-        rt,
-        "a repeat of an empty text",
-        &[1, 0, 0, 0, 10, 1, 0, 0],
-        b"",
-    )?;
-    grammar(rt, "a repeat of a text", &[1, 0, 1, 0, 10, 1, 0, 0], b"a")
-}
-
-// The other inputs, the grammar being good.
-fn input(
-    rt: &impl Print,
-    name: &str,
-    text: &[u8],
-    depth: u32,
-    report: usize,
-    scratch: usize,
-) -> io::Result<()> {
-    refused(rt, name, &[5, 0, 0, 0], b"", text, depth, report, scratch)
+    let cases: [(&str, &[i32], &[u8]); 9] = [
+        (
+            "M1's grammar",
+            &[1, 0, 1, 0, 8, 7, 1, 0, 19, 3, 0, 0, 6, 2, 3, 0],
+            b"abc",
+        ),
+        ("literals that are not UTF-8", &[5, 0, 0, 0], b"\xFF"),
+        ("literals that are not UTF-8, and no nodes", &[], b"\xFF"),
+        ("no nodes", &[], b""),
+        ("five numbers", &[5, 0, 0, 0, 5], b""),
+        ("kind 21", &[5, 0, 0, 0, 21, 0, 0, 0], b""),
+        ("a sequence of its own line", &[9, 1, 0, 0], b""),
+        ("a repeat of an empty text", &[1, 0, 0, 0, 10, 1, 0, 0], b""),
+        ("a repeat of a text", &[1, 0, 1, 0, 10, 1, 0, 0], b"a"),
+    ];
+    for (name, nodes, literals) in cases {
+        grammar(rt, name, nodes, literals)?;
+    }
+    Ok(())
 }
 
 // A text of 65,536 bytes, and all of it but the last.
 fn long_inputs(rt: &impl Print) -> io::Result<()> {
     let long = [0u8; 65536];
-    input(rt, "text of 65,535 bytes", &long[..65535], 1, 515, 4864)?;
-    input(rt, "text of 65,536 bytes", &long, 1, 515, 4864)?;
-    grammar(rt, "literals of 65,536 bytes", &[5, 0, 0, 0], &long)
+    let shorter = Case {
+        text: &long[..65535],
+        ..GOOD
+    };
+    refused(rt, "text of 65,535 bytes", shorter)?;
+    let longer = Case {
+        text: &long,
+        ..GOOD
+    };
+    refused(rt, "text of 65,536 bytes", longer)?;
+    grammar(rt, "literals of 65,536 bytes", GOOD.nodes, &long)
 }
 
+// The other inputs, the grammar being good.
 fn inputs(rt: &impl Print) -> io::Result<()> {
-    input(
-        rt,
-        "text that is not UTF-8, and depth 0",
-        b"\x80",
-        0,
-        515,
-        4864,
-    )?;
-    input(rt, "depth 0", b"", 0, 515, 4864)?;
-    input(rt, "depth 1,024", b"", 1024, 515, 4864)?;
-    input(rt, "depth 1,025, and a short report", b"", 1025, 514, 4864)?;
-    input(rt, "report of 514 numbers", b"", 1, 514, 4864)?;
-    input(rt, "scratch of 4,863 numbers", b"", 1, 515, 4863)
+    let cases = [
+        (
+            "text that is not UTF-8, and depth 0",
+            Case {
+                text: b"\x80",
+                depth: 0,
+                ..GOOD
+            },
+        ),
+        ("depth 0", Case { depth: 0, ..GOOD }),
+        (
+            "depth 1,024",
+            Case {
+                depth: 1024,
+                ..GOOD
+            },
+        ),
+        (
+            "depth 1,025, and a short report",
+            Case {
+                depth: 1025,
+                report: 514,
+                ..GOOD
+            },
+        ),
+        (
+            "report of 514 numbers",
+            Case {
+                report: 514,
+                ..GOOD
+            },
+        ),
+        (
+            "scratch of 4,863 numbers",
+            Case {
+                scratch: 4863,
+                ..GOOD
+            },
+        ),
+    ];
+    for (name, case) in cases {
+        refused(rt, name, case)?;
+    }
+    Ok(())
 }
 
 // ── The fields of kind 16 ──
@@ -146,34 +188,38 @@ fn fields(rt: &impl Print) -> io::Result<()> {
 }
 
 // ── The tracker: the calls, the limit and the cause, before and after an entry ──
-fn tracker(rt: &impl Print, t: CallLimitTracker) -> io::Result<()> {
-    let cause = match t.reached {
-        None => "no cause",
-        Some(LimitKind::Call) => "call limit",
-        Some(LimitKind::Stack) => "stack limit",
-    };
-    print!(rt; "{} of {}, {cause}", t.current, t.limit)
+// What is printed of a value of another crate.
+#[derive(Clone, Copy)]
+struct Shown<T>(T);
+
+impl fmt::Display for Shown<CallLimitTracker> {
+    fn fmt<W: fmt::Write>(&self, f: &mut fmt::Formatter<W>) -> fmt::Result {
+        let t = self.0;
+        let cause = match t.reached {
+            None => "no cause",
+            Some(LimitKind::Call) => "call limit",
+            Some(LimitKind::Stack) => "stack limit",
+        };
+        write!(f, "{} of {}, {cause}", t.current, t.limit)
+    }
 }
 
-fn answer(rt: &impl Print, let_in: bool, t: CallLimitTracker) -> io::Result<()> {
-    print!(rt; "{}", if let_in { "in, " } else { "refused, " })?;
-    tracker(rt, t)?;
-    println!(rt)
+fn answer(rt: &impl Print, came: Result<CallLimitTracker, CallLimitTracker>) -> io::Result<()> {
+    match came {
+        Ok(t) => println!(rt; "in, {}", Shown(t)),
+        Err(t) => println!(rt; "refused, {}", Shown(t)),
+    }
 }
 
 // By value, then lent.
 fn entry(rt: &impl Print, t: CallLimitTracker, counted: bool, room: usize) -> io::Result<()> {
-    tracker(rt, t)?;
     let call = if counted { "a counted call" } else { "a call" };
-    print!(rt; "; {call}, room for {room}: ")?;
-    match entered(t, counted, 0 < room) {
-        Ok(next) => answer(rt, true, next)?,
-        Err(next) => answer(rt, false, next)?,
-    }
+    print!(rt; "{}; {call}, room for {room}: ", Shown(t))?;
+    answer(rt, entered(t, counted, 0 < room))?;
     let mut lent = t;
     let let_in = enter(&mut lent, counted, room);
     print!(rt; "  lent: ")?;
-    answer(rt, let_in, lent)
+    answer(rt, if let_in { Ok(lent) } else { Err(lent) })
 }
 
 fn at(current: usize, limit: usize) -> CallLimitTracker {
@@ -209,23 +255,22 @@ fn entries(rt: &impl Print) -> io::Result<()> {
 }
 
 // ── An ending as one number, and the ending of that number ──
-fn ending(rt: &impl Print, e: Ending) -> io::Result<()> {
-    match e {
-        Ending::Ok => print!(rt; "Ok"),
-        Ending::Err => print!(rt; "Err"),
-        Ending::Stop(Cause::EmptyStack(line)) => print!(rt; "empty stack at {line}"),
-        Ending::Stop(Cause::TokensFull(line)) => print!(rt; "tokens full at {line}"),
-        Ending::Stop(Cause::StackFull(line)) => print!(rt; "stack full at {line}"),
-        Ending::Stop(Cause::AttemptsFull(line)) => print!(rt; "attempts full at {line}"),
+impl fmt::Display for Shown<Ending> {
+    fn fmt<W: fmt::Write>(&self, f: &mut fmt::Formatter<W>) -> fmt::Result {
+        match self.0 {
+            Ending::Ok => write!(f, "Ok"),
+            Ending::Err => write!(f, "Err"),
+            Ending::Stop(Cause::EmptyStack(line)) => write!(f, "empty stack at {line}"),
+            Ending::Stop(Cause::TokensFull(line)) => write!(f, "tokens full at {line}"),
+            Ending::Stop(Cause::StackFull(line)) => write!(f, "stack full at {line}"),
+            Ending::Stop(Cause::AttemptsFull(line)) => write!(f, "attempts full at {line}"),
+        }
     }
 }
 
 fn there_and_back(rt: &impl Print, e: Ending) -> io::Result<()> {
     let n = packed(e);
-    ending(rt, e)?;
-    print!(rt; ": {n}, ")?;
-    ending(rt, unpacked(n))?;
-    println!(rt)
+    println!(rt; "{}: {n}, {}", Shown(e), Shown(unpacked(n)))
 }
 
 fn endings(rt: &impl Print) -> io::Result<()> {

@@ -16,7 +16,7 @@ pub(crate) struct Case<'a> {
 }
 
 // The number that is written, if one is.
-pub(crate) fn number<N: FromStr + Drop>(digits: Option<&str>) -> Option<N>
+pub(crate) fn parsed<N: FromStr + Drop>(digits: Option<&str>) -> Option<N>
 where
     N::Err: Drop,
 {
@@ -45,18 +45,18 @@ impl<'a> Case<'a> {
     pub(crate) fn run(self, rt: &(impl Print + AllocGlobal)) -> io::Result<()> {
         let alloc = rt.alloc();
         let mut settings = self.settings.split(',');
-        let depth_limit = number(settings.next()).unwrap_or(1024);
-        let call_limit = number(settings.next()).unwrap_or(0);
-        let mut tokens = vec![in alloc; 9; number(settings.next()).unwrap_or(12)]?;
-        let mut report = vec![in alloc; 9; number(settings.next()).unwrap_or(516)]?;
-        let mut scratch = vec![in alloc; 9; number(settings.next()).unwrap_or(4864)]?;
+        let depth_limit = parsed(settings.next()).unwrap_or(1024);
+        let call_limit = parsed(settings.next()).unwrap_or(0);
+        let mut tokens = vec![in alloc; 9; parsed(settings.next()).unwrap_or(12)]?;
+        let mut report = vec![in alloc; 9; parsed(settings.next()).unwrap_or(516)]?;
+        let mut scratch = vec![in alloc; 9; parsed(settings.next()).unwrap_or(4864)]?;
         // The text's letters and those of the literals are written over and over, where a length is given.
-        let text_length = number(settings.next()).unwrap_or(self.text.len());
+        let text_length = parsed(settings.next()).unwrap_or(self.text.len());
         let text = repeated(alloc, self.text, text_length)?;
-        let literals_length = number(settings.next()).unwrap_or(self.literals.len());
+        let literals_length = parsed(settings.next()).unwrap_or(self.literals.len());
         let literals = repeated(alloc, self.literals, literals_length)?;
         let mut nodes = nodes_of(alloc, self.lines)?;
-        nodes.truncate(number(settings.next()).unwrap_or(nodes.len()));
+        nodes.truncate(parsed(settings.next()).unwrap_or(nodes.len()));
         let outcome = run(
             nodes.as_slice(),
             literals.as_slice(),

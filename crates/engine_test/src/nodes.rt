@@ -1,12 +1,12 @@
 // Nodes from text: kind, a, b, c with commas between them, lines with a space between them, zeros at a line's end left out. A fifth number
 // n stands for n such lines, whose a goes up by one from each to the next, and with a sixth number their b too.
-use crate::case::number;
+use crate::case::parsed;
 use std::alloc::{AllocError, Global};
 
 // The lines that one stands for.
 fn put_lines(nodes: &mut Vec<i32>, line: &str) -> Result<(), AllocError> {
     let mut numbers = line.split(',');
-    let next_or = |other: i32| number(numbers.next()).unwrap_or(other);
+    let next_or = |other: i32| parsed(numbers.next()).unwrap_or(other);
     let [kind, a, b, c, times] = [0, 0, 0, 0, 1].map(next_or);
     let b_goes_up = numbers.next().is_some();
     for i in 0..times {

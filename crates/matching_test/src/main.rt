@@ -8,7 +8,7 @@ use matching::position::{
 };
 use matching::span::{Span, as_bytes};
 use matching::utf8::{Character, char_at, is_utf8};
-use std::io;
+use std::{fmt, io};
 
 // ── UTF-8: the bytes, whether they are UTF-8, and at each byte place the character's value and length, or `-` ──
 fn bytes(rt: &impl Print, s: &[u8]) -> io::Result<()> {
@@ -105,47 +105,61 @@ fn refused(rt: &impl Print) -> io::Result<()> {
     )
 }
 
-// ── Matchers: each answers the position after what it matched ──
-fn answer(rt: &impl Print, input: &str, at: usize, found: Option<BytePosition>) -> io::Result<()> {
-    match found {
-        Some(p) => println!(rt; " in \"{input}\" at {at}: {}", p.0),
-        None => println!(rt; " in \"{input}\" at {at}: failed"),
+// ── Matchers: what is to match, by the functions and by the methods of `Position` ──
+#[derive(Clone, Copy)]
+enum Matcher<'a> {
+    String(&'a str),
+    Insensitive(&'a str),
+    Range(u32, u32),
+    Skip(usize),
+}
+
+impl fmt::Display for Matcher<'_> {
+    fn fmt<W: fmt::Write>(&self, f: &mut fmt::Formatter<W>) -> fmt::Result {
+        match *self {
+            Matcher::String(s) => write!(f, "match_string \"{s}\""),
+            Matcher::Insensitive(s) => write!(f, "match_insensitive \"{s}\""),
+            Matcher::Range(low, high) => write!(f, "match_range {low} to {high}"),
+            Matcher::Skip(n) => write!(f, "skip {n}"),
+        }
     }
 }
 
-fn string(rt: &impl Print, input: &str, at: usize, s: &str) -> io::Result<()> {
-    print!(rt; "match_string \"{s}\"")?;
-    answer(
-        rt,
-        input,
-        at,
-        match_string(input.as_bytes(), BytePosition(at), s.as_bytes()),
-    )
+impl Matcher<'_> {
+    // The position after what matched at `pos`.
+    fn after(self, input: &[u8], pos: BytePosition) -> Option<BytePosition> {
+        match self {
+            Matcher::String(s) => match_string(input, pos, s.as_bytes()),
+            Matcher::Insensitive(s) => match_insensitive(input, pos, s.as_bytes()),
+            Matcher::Range(low, high) => match_range(input, pos, low, high),
+            Matcher::Skip(n) => skip(input, pos, n),
+        }
+    }
+
+    // Whether it matched, and moved the position.
+    fn moves(self, p: &mut Position<'_>) -> bool {
+        match self {
+            Matcher::String(s) => p.match_string(s.as_bytes()),
+            Matcher::Insensitive(s) => p.match_insensitive(s.as_bytes()),
+            Matcher::Range(start, end) => p.match_range(Range { start, end }),
+            Matcher::Skip(n) => p.skip(n),
+        }
+    }
 }
 
-fn insensitive(rt: &impl Print, input: &str, at: usize, s: &str) -> io::Result<()> {
-    print!(rt; "match_insensitive \"{s}\"")?;
-    answer(
-        rt,
-        input,
-        at,
-        match_insensitive(input.as_bytes(), BytePosition(at), s.as_bytes()),
-    )
+fn answer(rt: &impl Print, input: &str, at: usize, m: Matcher) -> io::Result<()> {
+    print!(rt; "{m} in \"{input}\" at {at}: ")?;
+    match m.after(input.as_bytes(), BytePosition(at)) {
+        Some(p) => println!(rt; "{}", p.0),
+        None => println!(rt; "failed"),
+    }
 }
 
-fn range(rt: &impl Print, input: &str, at: usize, low: u32, high: u32) -> io::Result<()> {
-    print!(rt; "match_range {low} to {high}")?;
-    answer(
-        rt,
-        input,
-        at,
-        match_range(input.as_bytes(), BytePosition(at), low, high),
-    )
-}
-
-fn skipped(rt: &impl Print, input: &str, at: usize, n: usize) -> io::Result<()> {
-    print!(rt; "skip {n}")?;
-    answer(rt, input, at, skip(input.as_bytes(), BytePosition(at), n))
+fn answers(rt: &impl Print, cases: &[(&str, usize, Matcher)]) -> io::Result<()> {
+    for (input, at, m) in cases {
+        answer(rt, input, *at, *m)?;
+    }
+    Ok(())
 }
 
 fn end(rt: &impl Print, input: &str, at: usize) -> io::Result<()> {
@@ -164,103 +178,90 @@ fn span(rt: &impl Print, input: &str, start: usize, end: usize) -> io::Result<()
     println!(rt; "\"")
 }
 
-fn every_matcher(rt: &impl Print, input: &str, at: usize) -> io::Result<()> {
-    string(rt, input, at, "")?;
-    string(rt, input, at, "b")?;
-    insensitive(rt, input, at, "")?;
-    insensitive(rt, input, at, "B")?;
-    range(rt, input, at, 0, 0x10FFFF)?;
-    skipped(rt, input, at, 0)?;
-    skipped(rt, input, at, 1)?;
-    end(rt, input, at)
-}
-
 // One before the end, at the end, one past it.
 fn ends(rt: &impl Print) -> io::Result<()> {
     for at in 1..=3 {
-        every_matcher(rt, "ab", at)?;
+        for m in [
+            Matcher::String(""),
+            Matcher::String("b"),
+            Matcher::Insensitive(""),
+            Matcher::Insensitive("B"),
+            Matcher::Range(0, 0x10FFFF),
+            Matcher::Skip(0),
+            Matcher::Skip(1),
+        ] {
+            answer(rt, "ab", at, m)?;
+        }
+        end(rt, "ab", at)?;
     }
     Ok(())
 }
 
 fn strings(rt: &impl Print) -> io::Result<()> {
-    string(rt, "abc", 0, "abc")?;
-    string(rt, "abc", 0, "abd")?;
-    string(rt, "abc", 1, "bcd")?;
-    insensitive(rt, "145.500 kHz", 8, "KHz")?;
-    insensitive(rt, "AZ", 0, "az")?;
-    insensitive(rt, "az", 0, "AZ")?;
-    insensitive(rt, "`", 0, "@")?;
-    insensitive(rt, "@", 0, "`")?;
-    insensitive(rt, "{", 0, "[")?;
-    insensitive(rt, "[", 0, "{")?;
-    insensitive(rt, "\u{E9}", 0, "\u{C9}")
+    answers(
+        rt,
+        &[
+            ("abc", 0, Matcher::String("abc")),
+            ("abc", 0, Matcher::String("abd")),
+            ("abc", 1, Matcher::String("bcd")),
+            ("145.500 kHz", 8, Matcher::Insensitive("KHz")),
+            ("AZ", 0, Matcher::Insensitive("az")),
+            ("az", 0, Matcher::Insensitive("AZ")),
+            ("`", 0, Matcher::Insensitive("@")),
+            ("@", 0, Matcher::Insensitive("`")),
+            ("{", 0, Matcher::Insensitive("[")),
+            ("[", 0, Matcher::Insensitive("{")),
+            ("\u{E9}", 0, Matcher::Insensitive("\u{C9}")),
+        ],
+    )
 }
 
 fn ranges(rt: &impl Print) -> io::Result<()> {
-    range(rt, "a", 0, 97, 98)?;
-    range(rt, "b", 0, 97, 98)?;
-    range(rt, "c", 0, 97, 98)?;
-    range(rt, "b", 0, 98, 97)?;
-    range(rt, "\u{391}", 0, 0x391, 0x3A9)?;
-    range(rt, "\u{391}", 1, 0, 0x10FFFF)
+    answers(
+        rt,
+        &[
+            ("a", 0, Matcher::Range(97, 98)),
+            ("b", 0, Matcher::Range(97, 98)),
+            ("c", 0, Matcher::Range(97, 98)),
+            ("b", 0, Matcher::Range(98, 97)),
+            ("\u{391}", 0, Matcher::Range(0x391, 0x3A9)),
+            ("\u{391}", 1, Matcher::Range(0, 0x10FFFF)),
+        ],
+    )
 }
 
 fn skips(rt: &impl Print) -> io::Result<()> {
     let s = "A\u{2262}\u{391}.";
     for n in 1..=5 {
-        skipped(rt, s, 0, n)?;
+        answer(rt, s, 0, Matcher::Skip(n))?;
     }
-    skipped(rt, s, 2, 0)?;
-    skipped(rt, s, 2, 1)?;
-    skipped(rt, s, 4, 2)
+    answers(
+        rt,
+        &[
+            (s, 2, Matcher::Skip(0)),
+            (s, 2, Matcher::Skip(1)),
+            (s, 4, Matcher::Skip(2)),
+        ],
+    )
 }
 
 fn spans(rt: &impl Print) -> io::Result<()> {
-    span(rt, "abc", 0, 3)?;
-    span(rt, "abc", 1, 2)?;
-    span(rt, "abc", 2, 1)?;
-    span(rt, "abc", 1, 9)?;
-    span(rt, "abc", 7, 9)
+    for (start, end) in [(0, 3), (1, 2), (2, 1), (1, 9), (7, 9)] {
+        span(rt, "abc", start, end)?;
+    }
+    Ok(())
 }
 
 // ── `Position`, which carries its text: each of its functions ──
 // Where a position that was made at the start of a text stands after a match was tried.
-fn stands(rt: &impl Print, input: &str, p: Position, matched: bool) -> io::Result<()> {
-    let tried = if matched {
+fn stands(rt: &impl Print, input: &str, m: Matcher) -> io::Result<()> {
+    let mut p = Position::from_start(input.as_bytes());
+    let tried = if m.moves(&mut p) {
         "matched, now"
     } else {
         "failed, still"
     };
-    println!(rt; " in \"{input}\": {tried} at {}", p.pos())
-}
-
-fn tried_string(rt: &impl Print, input: &str, s: &str) -> io::Result<()> {
-    let mut p = Position::from_start(input.as_bytes());
-    let matched = p.match_string(s.as_bytes());
-    print!(rt; "Position match_string \"{s}\"")?;
-    stands(rt, input, p, matched)
-}
-
-fn tried_insensitive(rt: &impl Print, input: &str, s: &str) -> io::Result<()> {
-    let mut p = Position::from_start(input.as_bytes());
-    let matched = p.match_insensitive(s.as_bytes());
-    print!(rt; "Position match_insensitive \"{s}\"")?;
-    stands(rt, input, p, matched)
-}
-
-fn tried_range(rt: &impl Print, input: &str, start: u32, end: u32) -> io::Result<()> {
-    let mut p = Position::from_start(input.as_bytes());
-    let matched = p.match_range(Range { start, end });
-    print!(rt; "Position match_range {start} to {end}")?;
-    stands(rt, input, p, matched)
-}
-
-fn tried_skip(rt: &impl Print, input: &str, n: usize) -> io::Result<()> {
-    let mut p = Position::from_start(input.as_bytes());
-    let matched = p.skip(n);
-    print!(rt; "Position skip {n}")?;
-    stands(rt, input, p, matched)
+    println!(rt; "Position {m} in \"{input}\": {tried} at {}", p.pos())
 }
 
 // `new` answers a position at an edge of the text, or none.
@@ -285,17 +286,21 @@ fn tried_end_of_input(rt: &impl Print, input: &str, at: usize) -> io::Result<()>
 }
 
 fn positions(rt: &impl Print) -> io::Result<()> {
-    tried_string(rt, "abcd", "abc")?;
-    tried_string(rt, "abcd", "abd")?;
-    tried_string(rt, "ab", "abc")?;
-    tried_insensitive(rt, "kHz", "KHZ")?;
-    tried_insensitive(rt, "kHz", "KHA")?;
-    tried_range(rt, "b", 97, 98)?;
-    tried_range(rt, "c", 97, 98)?;
-    tried_range(rt, "\u{391}.", 0x391, 0x3A9)?;
-    tried_skip(rt, "A\u{2262}.", 2)?;
-    tried_skip(rt, "A\u{2262}.", 4)?;
-    tried_skip(rt, "", 0)?;
+    for (input, m) in [
+        ("abcd", Matcher::String("abc")),
+        ("abcd", Matcher::String("abd")),
+        ("ab", Matcher::String("abc")),
+        ("kHz", Matcher::Insensitive("KHZ")),
+        ("kHz", Matcher::Insensitive("KHA")),
+        ("b", Matcher::Range(97, 98)),
+        ("c", Matcher::Range(97, 98)),
+        ("\u{391}.", Matcher::Range(0x391, 0x3A9)),
+        ("A\u{2262}.", Matcher::Skip(2)),
+        ("A\u{2262}.", Matcher::Skip(4)),
+        ("", Matcher::Skip(0)),
+    ] {
+        stands(rt, input, m)?;
+    }
     for at in [1, 2, 5, 6] {
         edge(rt, "A\u{2262}.", at)?;
     }

@@ -36,6 +36,7 @@ impl fmt::Display for Numbers<'_> {
 }
 
 // The header's order of arguments, with its promise of each for all input.
+// Kept: eight parameters, and once more in parser_core_c: each calls another crate's export by position, in C's order of arguments.
 fn run_by_position<'a>(
     nodes: &[i32],
     literals: &'a [u8],

@@ -2,34 +2,47 @@
 // listings, and run_sheet with the limits and areas that planread never has.
 #![tactic(auto)]
 
+ghost use Rattle.std.specs.Prelude.{◌≤◌, length};
+
 use engine::state::Outcome;
 use files::run_sheet::run_sheet;
 use sheet::listing::write_listing;
 use sheet::sheet::read_sheet;
-use std::io;
+use std::{fmt, io};
 
-fn put_outcome(rt: &impl Print, name: &str, o: Outcome) -> io::Result<()> {
-    print!(rt; "{name}: {} {} {}", o.number, o.place, o.count)
-}
+// An outcome's number, place and count.
+#[derive(Clone, Copy)]
+struct Answer(Outcome);
 
-fn put_numbers(rt: &impl Print, nodes: &[i32]) -> io::Result<()> {
-    for n in nodes {
-        print!(rt; " {n}")?;
+impl fmt::Display for Answer {
+    fn fmt<W: fmt::Write>(&self, f: &mut fmt::Formatter<W>) -> fmt::Result {
+        let Outcome {
+            number,
+            place,
+            count,
+        } = self.0;
+        write!(f, "{number} {place} {count}")
     }
-    Ok(())
 }
 
-// The outcome and the whole node area, on a line.
-fn put_all(rt: &impl Print, name: &str, o: Outcome, nodes: &[i32]) -> io::Result<()> {
-    put_outcome(rt, name, o)?;
-    put_numbers(rt, nodes)?;
-    println!(rt)
+// The numbers of a node area, each behind a space.
+// Kept: parser_core_test prints its areas so too. Programs share no code but a library's, and a crate for this loop would be no plainer.
+#[derive(Clone, Copy)]
+struct Numbers<'a>(&'a [i32]);
+
+impl fmt::Display for Numbers<'_> {
+    fn fmt<W: fmt::Write>(&self, f: &mut fmt::Formatter<W>) -> fmt::Result {
+        for n in self.0 {
+            write!(f, " {n}")?;
+        }
+        Ok(())
+    }
 }
 
-// A sheet for a node area of some fives.
+// A sheet for a node area of some fives: the outcome and the whole area, on a line.
 fn one(rt: &impl Print, name: &str, sheet: &[u8], nodes: &mut [i32]) -> io::Result<()> {
     let o = read_sheet(sheet, nodes);
-    put_all(rt, name, o, nodes)
+    println!(rt; "{name}: {}{}", Answer(o), Numbers(nodes))
 }
 
 // Sheets for a node area of five numbers: one node, and one number behind.
@@ -67,31 +80,32 @@ fn forty(rt: &impl Print) -> io::Result<()> {
     )
 }
 
-// As many lines as are taken: their first and last nodes, and what lies behind.
-fn most(rt: &impl Print) -> io::Result<()> {
-    let lines = [*b"  -6           2           3           0\n"; 4096];
-    let mut nodes = [5i32; 16385];
-    put_outcome(
-        rt,
-        "4,096 lines",
-        read_sheet(lines.as_flattened(), &mut nodes),
-    )?;
-    put_numbers(rt, &nodes[..4])?;
-    put_numbers(rt, &nodes[16380..])?;
-    println!(rt)
+// A sheet of many lines, for an area of fives: its first node, and its numbers from `last` on.
+fn long(
+    rt: &impl Print,
+    name: &str,
+    lines: &[[u8; 41]],
+    nodes: &mut [i32],
+    last: usize,
+) -> io::Result<()>
+    requires node { 4 ≤ length nodes.old }
+    requires rest { last ≤ length nodes.old }
+{
+    let o = read_sheet(lines.as_flattened(), nodes);
+    let nodes = &nodes[..];
+    println!(rt;
+        "{name}: {}{}{}",
+        Answer(o),
+        Numbers(&nodes[..4]),
+        Numbers(&nodes[last..])
+    )
 }
 
-fn one_too_many(rt: &impl Print) -> io::Result<()> {
-    let lines = [*b"  -6           2           3           0\n"; 4097];
-    let mut nodes = [5i32; 16388];
-    put_outcome(
-        rt,
-        "4,097 lines",
-        read_sheet(lines.as_flattened(), &mut nodes),
-    )?;
-    put_numbers(rt, &nodes[..4])?;
-    put_numbers(rt, &nodes[16384..])?;
-    println!(rt)
+// As many lines as are taken, with a number behind their nodes, and one line more.
+fn longest(rt: &impl Print) -> io::Result<()> {
+    let line = *b"  -6           2           3           0\n";
+    long(rt, "4,096 lines", &[line; 4096], &mut [5; 16385], 16380)?;
+    long(rt, "4,097 lines", &[line; 4097], &mut [5; 16388], 16384)
 }
 
 // Not lines of 41 bytes, or not ended.
@@ -271,17 +285,21 @@ fn listings(rt: &impl Print) -> io::Result<()> {
     list(rt, "area too short", parsed, &tokens, &report, &mut short)
 }
 
+#[derive(Clone, Copy)]
+struct Limits {
+    depth: u32,
+    calls: u32,
+}
+
 // Rule 7 over a sequence over `a`, through run_sheet: the outcome and the node area.
 fn limited(
     rt: &impl Print,
     name: &str,
-    depth: u32,
-    calls: u32,
+    limits: Limits,
     nodes: &mut [i32],
     report: &mut [u32],
     scratch: &mut [u32],
 ) -> io::Result<()> {
-    let mut tokens = [9u32; 10];
     let lines = [
         *b"   1           0           1           0\n",
         *b"   9           1           0           0\n",
@@ -291,75 +309,67 @@ fn limited(
         lines.as_flattened(),
         b"abc",
         b"a",
-        depth,
-        calls,
+        limits.depth,
+        limits.calls,
         nodes,
-        &mut tokens,
+        &mut [9; 10],
         report,
         scratch,
     );
-    put_all(rt, name, o, nodes)
+    println!(rt; "{name}: {}{}", Answer(o), Numbers(nodes))
 }
 
+// In areas of which one is too short.
 fn short_areas(rt: &impl Print) -> io::Result<()> {
-    let mut report = [9u32; 515];
-    let mut scratch = [9u32; 4864];
-    let mut few = [5i32; 11];
+    let limits = Limits { depth: 0, calls: 0 };
     limited(
         rt,
         "run, nodes short",
-        0,
-        0,
-        &mut few,
-        &mut report,
-        &mut scratch,
+        limits,
+        &mut [5; 11],
+        &mut [9; 515],
+        &mut [9; 4864],
     )?;
-    let mut nodes = [5i32; 13];
-    let mut less = [9u32; 514];
+    let limits = Limits { depth: 2, calls: 0 };
     limited(
         rt,
         "run, report short",
-        2,
-        0,
-        &mut nodes,
-        &mut less,
-        &mut scratch,
+        limits,
+        &mut [5; 13],
+        &mut [9; 514],
+        &mut [9; 4864],
     )?;
-    let mut little = [9u32; 4863];
     limited(
         rt,
         "run, scratch short",
-        2,
-        0,
-        &mut nodes,
-        &mut report,
-        &mut little,
+        limits,
+        &mut [5; 13],
+        &mut [9; 515],
+        &mut [9; 4863],
     )
 }
 
 // In areas that are as long as they must be.
-fn at_limits(rt: &impl Print, name: &str, depth: u32, calls: u32) -> io::Result<()> {
-    let mut nodes = [5i32; 13];
-    let mut report = [9u32; 515];
-    let mut scratch = [9u32; 4864];
-    limited(
-        rt,
-        name,
-        depth,
-        calls,
-        &mut nodes,
-        &mut report,
-        &mut scratch,
-    )
-}
-
-fn limits(rt: &impl Print) -> io::Result<()> {
-    at_limits(rt, "run, depth 0", 0, 0)?;
-    at_limits(rt, "run, depth 1", 1, 0)?;
-    at_limits(rt, "run, depth 2", 2, 0)?;
-    at_limits(rt, "run, depth 1,025", 1025, 0)?;
-    at_limits(rt, "run, call limit 1", 2, 1)?;
-    at_limits(rt, "run, call limit 2", 2, 2)
+fn at_limits(rt: &impl Print) -> io::Result<()> {
+    for (name, depth, calls) in [
+        ("run, depth 0", 0, 0),
+        ("run, depth 1", 1, 0),
+        ("run, depth 2", 2, 0),
+        ("run, depth 1,025", 1025, 0),
+        ("run, call limit 1", 2, 1),
+        ("run, call limit 2", 2, 2),
+    ] {
+        let limits = Limits { depth, calls };
+        limited(
+            rt,
+            name,
+            limits,
+            &mut [5; 13],
+            &mut [9; 515],
+            &mut [9; 4864],
+        )?;
+    }
+    Ok(())
 }
 
 fn main(rt: HostRuntime) -> io::Result<()> {
@@ -371,9 +381,8 @@ fn main(rt: HostRuntime) -> io::Result<()> {
     order(&rt)?;
     one_short(&rt)?;
     forty(&rt)?;
-    most(&rt)?;
-    one_too_many(&rt)?;
+    longest(&rt)?;
     listings(&rt)?;
     short_areas(&rt)?;
-    limits(&rt)
+    at_limits(&rt)
 }
