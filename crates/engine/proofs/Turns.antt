@@ -19,7 +19,7 @@ use Rattle.reading.specs.Pest.{ParserState}
 use Rattle.engine.specs.Entry.{opened, refused, entering}
 use Rattle.engine.specs.Evaluation.{setting_of, Ready, Line, evaluated}
 use Rattle.reading.proofs.Invariant.{After}
-use Rattle.engine.proofs.Steps.{ready_on, kept, moves_on, entry_refused, entry_open}
+use Rattle.engine.proofs.Steps.{Refused, ready_on, kept, moves_on, entry_refused, entry_open}
 
 unroll : (f : ℕ) (F : ParserState → Ending ParserState) (m : ParserState) → 0 < f → Pest.repeat f F m ≡ Pest.round_end (F m) (λ t. Pest.repeat (f - 1) F t)
 unroll zero F m h = absurd (omega arith)
@@ -79,7 +79,7 @@ module _ (ns : List ℤ) (literals text : List ℕ) (capacity d j body : ℕ) (d
   last_turn tokens₀ scratch₀ m₀ tokens scratch o m i w x e =
       let h : length text - m.position < w.fuel = w.enough in
       ap (λ (z : Ending ParserState). Pest.round_end z (λ y. Pest.repeat (w.fuel - 1) F y)) e ∙ sym (unroll w.fuel F m (omega arith)) ∙ w.runs
-      ∙ entry_open ns literals text capacity (Grammar.repeat B) true (λ f k. Pest.repeat (suc (length text - k.position)) (f B) k) (λ room f k. refl) d j deeper o m₀ i
+      ∙ entry_open ns literals text capacity (Grammar.repeat B) true (λ f k. Pest.repeat (suc (length text - k.position)) (f B) k) (λ room f k. refl) d j o m₀ (record { next = deeper; opens = i })
 
   pub repeat_err : (tokens₀ scratch₀ : List ℕ) (m₀ : ParserState) (tokens scratch : List ℕ) (o m : ParserState) → opened m₀ ≡ entering (ltb 0 d) true o → T tokens₀ scratch₀ m₀ tokens scratch m
       → (v : ParserState) → Err v ≡ F m → (y : Ending ParserState) → y ≡ Pest.optional (Err v) → y ≡ evaluated ns literals text capacity d (Grammar.repeat B) o
@@ -89,7 +89,7 @@ module _ (ns : List ℤ) (literals text : List ℕ) (capacity d j body : ℕ) (d
       → (c : Cause) → Stop c ≡ F m → Stop c ≡ evaluated ns literals text capacity d (Grammar.repeat B) o
   repeat_stop tokens₀ scratch₀ m₀ tokens scratch o m i w c e = last_turn tokens₀ scratch₀ m₀ tokens scratch o m i w (Stop c) e
 
-pub repeat_refused : (ns : List ℤ) (literals text : List ℕ) (capacity d body : ℕ) (m n : ParserState) → refused n ≡ entering (ltb 0 d) true m
+pub repeat_refused : (ns : List ℤ) (literals text : List ℕ) (capacity d body : ℕ) (m n : ParserState) → Refused true d m n
     → Err n ≡ evaluated ns literals text capacity d (Grammar.repeat (tree_at ns literals body)) m
 repeat_refused ns literals text capacity d body m n e =
     entry_refused ns literals text capacity (Grammar.repeat (tree_at ns literals body)) true (λ f k. Pest.repeat (suc (length text - k.position)) (f (tree_at ns literals body)) k) (λ room f k. refl) d m n e

@@ -14,25 +14,25 @@ pub overflow_cast-line : goal.overflow_cast-line
 overflow_cast-line c = let h = few _ _ (tests _ _ _ _ c.requires.ready) _ c.requires.line.0 in omega arith
 
 pub stack_pop-requires : goal.stack_pop-requires
-stack_pop-requires c = state_of _ _ _ _ _ _ _ c.args.s.now c.requires.ready
+stack_pop-requires c = state_of _ _ _ _ c.args.s.now c.requires.ready
 
 pub ends_at-e-requires : goal.ends_at-e-requires
 ends_at-e-requires c = whole _ _ (tests _ _ _ _ c.requires.ready) _ c.requires.line.0
 
 pub stack_match_peek_slice-requires : goal.stack_match_peek_slice-requires
-stack_match_peek_slice-requires c = (state_of _ _ _ _ _ _ _ c.args.s.now c.requires.ready).stack
+stack_match_peek_slice-requires c = (state_of _ _ _ _ c.args.s.now c.requires.ready).stack
 
 pub overflow_cast-line-in-17 : goal.overflow_cast-line-in-17
 overflow_cast-line-in-17 c = let h = few _ _ (tests _ _ _ _ c.requires.ready) _ c.requires.line.0 in omega arith
 
 pub stack_match_pop-requires : goal.stack_match_pop-requires
-stack_match_pop-requires c = state_of _ _ _ _ _ _ _ c.args.s.now c.requires.ready
+stack_match_pop-requires c = state_of _ _ _ _ c.args.s.now c.requires.ready
 
 pub overflow_cast-n : goal.overflow_cast-n
 overflow_cast-n c = let h = tag_low _ _ (tests _ _ _ _ c.requires.ready) _ c.requires.line.0 _ c.line_at-n.ensures c.in-19.is in omega arith
 
 pub tag_node-requires : goal.tag_node-requires
-tag_node-requires c = omega (arith, place_of _ _ _ _ _ _ _ c.args.s.now c.requires.ready, c.requires.ready.area)
+tag_node-requires c = omega (arith, place_of _ _ _ _ c.args.s.now c.requires.ready, c.requires.ready.area)
 
 pub leaf-requires-clause-accepted : goal.leaf-requires-clause-accepted
 leaf-requires-clause-accepted c = (c.requires.ready.fitting, c.requires.ready.moving)
