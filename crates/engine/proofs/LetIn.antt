@@ -37,10 +37,12 @@ pub record Over (g : Setting) (f : Exp → Exp) (tokens scratch : List ℕ) (dep
 
 -- What is evaluated of the tree is evaluated of the line.
 pub on_tree : {g : Setting} {f : Exp → Exp} {tokens scratch : List ℕ} {depth line below : ℕ} {m : Pest.ParserState} → Over g f tokens scratch depth line below m
-    → {r : Ending Pest.ParserState} → r ≡ evaluated g.nodes.now g.literals.now g.text.now g.room depth (f (tree_at g.nodes.now g.literals.now below)) m → r ≡ evaluates g depth line m
+    → {r : Ending Pest.ParserState} → r ≡ evaluated g.nodes.now g.literals.now g.text.now g.room depth (f (tree_at g.nodes.now g.literals.now below)) m
+    → r ≡ evaluates g depth line m
 on_tree {g} {depth = d} {m = m} w e = e ∙ ap (λ (x : Exp). evaluated g.nodes.now g.literals.now g.text.now g.room d x m) (sym w.tree)
 
-module _ (g : Setting) {tokens scratch : List ℕ} {depth : ℕ} {m : Pest.ParserState} (r : Ready g.nodes.now g.literals.now g.text.now tokens scratch g.room depth m) where
+module _ (g : Setting) {tokens scratch : List ℕ} {depth : ℕ} {m : Pest.ParserState}
+    (r : Ready g.nodes.now g.literals.now g.text.now tokens scratch g.room depth m) where
   abbrev T : (line : ℕ) → Exp
   T line = tree_at g.nodes.now g.literals.now line
 
@@ -66,7 +68,8 @@ module _ (g : Setting) {tokens scratch : List ℕ} {depth : ℕ} {m : Pest.Parse
     pub lookahead_at : n ≡ line_of (node_at g.nodes.now line) → LineOf g 12 line → One line (Grammar.lookahead (eqb n.b 1)) n.a
     lookahead_at e i = over line (at_12 _ _ (tests _ _ _ _ r) line i.0 n e i.1)
 
-    pub atomic_at : n ≡ line_of (node_at g.nodes.now line) → LineOf g 13 line → {a : Atomicity} → a ≡ atomicity_of n.b → One line (Grammar.atomic a) n.a
+    pub atomic_at : n ≡ line_of (node_at g.nodes.now line)
+        → LineOf g 13 line → {a : Atomicity} → a ≡ atomicity_of n.b → One line (Grammar.atomic a) n.a
     atomic_at e i h = over line (at_13 _ _ (tests _ _ _ _ r) line i.0 n e _ h i.1)
 
     pub push_at : n ≡ line_of (node_at g.nodes.now line) → LineOf g 14 line → One line (Grammar.stack_push line) n.a
@@ -82,8 +85,9 @@ pub record LetIn (g : Setting) (f : Exp → Exp) (counted : Bool) (tokens scratc
   pub entry : Opened counted depth k (view tokens scratch s) (view tokens scratch t)
   pub ready : ReadyOf g tokens scratch depth t
 
-pub let_in : {g : Setting} {f : Exp → Exp} {tokens scratch : List ℕ} {line below : ℕ} {counted : Bool} {depth k : ℕ} {s t : ParserState} {r : Option ℕ}
-    → Over g f tokens scratch depth line below (view tokens scratch s) → EnteredBy counted depth s t r → r ≡ Some k → LetIn g f counted tokens scratch depth line below k s t
+pub let_in : {g : Setting} {f : Exp → Exp} {tokens scratch : List ℕ} {line below : ℕ} {counted : Bool} {depth k : ℕ}
+    {s t : ParserState} {r : Option ℕ} → Over g f tokens scratch depth line below (view tokens scratch s) → EnteredBy counted depth s t r → r ≡ Some k
+    → LetIn g f counted tokens scratch depth line below k s t
 let_in {tokens = a} {scratch = b} {counted = counted} {depth = depth} {s = s} {t = t} w h e =
     let i : EnteredBy counted depth s t (Some _) = subst (EnteredBy counted depth s t) e h in
     record {
@@ -98,7 +102,8 @@ shut_out tokens scratch {counted} {depth} {s} {t} h e =
     let i : EnteredBy counted depth s t None = subst (EnteredBy counted depth s t) e h in
     record { refuses = i.entry tokens scratch }
 
-module _ {g : Setting} {f : Exp → Exp} {counted : Bool} {tokens scratch : List ℕ} {depth line below k : ℕ} {s t : ParserState} (o : LetIn g f counted tokens scratch depth line below k s t) where
+module _ {g : Setting} {f : Exp → Exp} {counted : Bool} {tokens scratch : List ℕ} {depth line below k : ℕ} {s t : ParserState}
+    (o : LetIn g f counted tokens scratch depth line below k s t) where
   -- The line below is called with one call less.
   pub calls : {n : ℕ} → depth * 8196 ≡ n → {a b : List ℕ} {m : Pest.ParserState} → Ready g.nodes.now g.literals.now g.text.now a b g.room k m
       → (k * 8196 + below * 2 + 3 < n) × (Ready g.nodes.now g.literals.now g.text.now a b g.room k m × Line g.nodes.now below)
@@ -107,5 +112,6 @@ module _ {g : Setting} {f : Exp → Exp} {counted : Bool} {tokens scratch : List
   pub less : ReadyOf g tokens scratch k t
   less = ready_less _ _ _ _ o.entry.next o.ready
 
-  pub marked : {b : List ℕ} (u : ParserState) → view tokens b u ≡ Pest.checkpoint (view tokens scratch t) → length b ≡ length scratch → ReadyOf g tokens b k u
+  pub marked : {b : List ℕ} (u : ParserState) → view tokens b u ≡ Pest.checkpoint (view tokens scratch t) → length b ≡ length scratch
+      → ReadyOf g tokens b k u
   marked u e h = ready_marked _ _ _ _ o.ready o.entry.next e h

@@ -1,5 +1,5 @@
-use Prim.Native.Nat.{◌-◌, ◌≤◌}
-use mathlib.Core.Path.{◌≡◌, refl, ap, sym, ◌∙◌}
+use Prim.Native.Nat.{◌-◌}
+use mathlib.Core.Path.{refl, ap, sym, ◌∙◌}
 use mathlib.Core.Bool.{not}
 use native.Mathlib.Omega.{arith}
 use Rattle.reading.specs.declared.parser_state.Lookahead.{Lookahead}
@@ -8,13 +8,18 @@ use Rattle.engine.specs.Fields.{set_position, set_lookahead}
 use Rattle.engine.specs.Areas.{view, view_end}
 use Rattle.engine.proofs.Climbs.{goes_yes, goes_no, goes_fork}
 use Rattle.engine.proofs.LeafSteps.{answers, at_done, at_fork, no_higher}
-use Rattle.engine.proofs.LetIn.{rule_at, sequence_at, repeat_at, optional_at, lookahead_at, atomic_at, push_at, restore_at, on_tree, let_in, shut_out, calls, less, marked, setting}
+use Rattle.engine.proofs.LetIn.{rule_at, sequence_at, repeat_at, optional_at, lookahead_at, atomic_at, push_at, restore_at, on_tree, let_in}
+use Rattle.engine.proofs.LetIn.{shut_out, calls, less, marked, setting}
 use Rattle.engine.proofs.LineSteps.{whole, fork_at, at_8, moves_10, rule_line, rule_runs}
-use Rattle.engine.proofs.Steps.{tests, told, refused_test, passed_test, ready_atom, ready_looking, ready_marked, mark_of, few_of, recording_of, begun, place_of, held, placed, marked_queue}
-use Rattle.engine.proofs.Steps.{atomic_refused, lookahead_refused, optional_refused, restore_refused, rule_refused, sequence_refused, push_refused}
-use Rattle.engine.proofs.Steps.{atomic_step, lookahead_step, optional_step, restore_step, rule_step, rule_err, rule_stop, sequence_step, push_step, body_ready, body_push, body_rule}
+use Rattle.engine.proofs.Steps.{tests, told, refused_test, passed_test, ready_atom, ready_looking, ready_marked, mark_of, few_of}
+use Rattle.engine.proofs.Steps.{recording_of, begun, place_of, held, placed, marked_queue}
+use Rattle.engine.proofs.Steps.{atomic_refused, lookahead_refused, optional_refused, restore_refused, rule_refused, sequence_refused}
+use Rattle.engine.proofs.Steps.{push_refused}
+use Rattle.engine.proofs.Steps.{atomic_step, lookahead_step, optional_step, restore_step, rule_step, rule_err, rule_stop, sequence_step}
+use Rattle.engine.proofs.Steps.{push_step, body_ready, body_push, body_rule}
 use Rattle.engine.proofs.Turns.{first_turn, turned, next_turn, repeat_err, repeat_stop, repeat_refused}
-use Rattle.engine.proofs.Walks.{slopes, low_line, low_upto, forks_below, line_whole, first_climb, go_ready, climb_in, climb_line, climb_go, climb_stay, climbed, top_in, top_stay, top_go}
+use Rattle.engine.proofs.Walks.{slopes, low_line, low_upto, forks_below, line_whole, first_climb, go_ready, climb_in, climb_line, climb_go}
+use Rattle.engine.proofs.Walks.{climb_stay, climbed, top_in, top_stay, top_go}
 use Rattle.engine.proofs.parser_state.+evaluation.Goals.{left_side-then-goes_right, left_side-else-goes_right}
 use Rattle.engine.proofs.parser_state.+evaluation.Goals as goal
 
@@ -42,22 +47,39 @@ atomic-returns t c =
 -- Down to the leftmost line, and up again line by line: each comes to what its own evaluation comes to (Walks, Climbs).
 
 pub left_side-descend-low-requires : goal.left_side-descend-low-requires
-left_side-descend-low-requires t c = slopes _ _ _ _ _ _ _ _ _ c.requires.ready c.requires.line
+left_side-descend-low-requires t c = slopes _ _ _ _ _ c.requires.ready c.requires.line
 
 pub left_side-simple-e-requires : goal.left_side-simple-e-requires
-left_side-simple-e-requires t c = (omega (arith, c.decreases, low_upto _ _ _ _ _ _ _ _ _ c.requires.ready c.requires.line _ c.descend-low.ensures), ((c.requires.ready), (low_line _ _ _ _ _ _ _ _ _ c.requires.ready c.requires.line _ c.descend-low.ensures, c.descend-low.ensures.last)))
+left_side-simple-e-requires t c = (
+  omega (arith, c.decreases, low_upto _ _ _ _ _ c.requires.ready c.requires.line c.descend-low.ensures),
+  (c.requires.ready, (low_line _ _ _ _ _ c.requires.ready c.requires.line c.descend-low.ensures, c.descend-low.ensures.last)),
+)
 
 pub left_side-loop-k-init : goal.left_side-loop-k-init
-left_side-loop-k-init t c = (c.descend-low.result.count, refl, first_climb _ _ _ _ _ _ _ _ _ c.requires.ready c.requires.line _ c.descend-low.ensures _ _ _ c.simple-e.ensures)
+left_side-loop-k-init t c = (c.descend-low.result.count, refl, first_climb _ _ _ _ _ c.requires.ready c.requires.line c.descend-low.ensures c.simple-e.ensures)
 
 pub left_side-spine_at-l-requires : goal.left_side-spine_at-l-requires
-left_side-spine_at-l-requires t c = (slopes _ _ _ _ _ _ _ _ _ c.requires.ready c.requires.line, forks_below _ _ _ _ _ _ _ _ _ c.requires.ready c.requires.line _ c.descend-low.ensures _ (omega (arith, c.loop-k.invariant.1, c.loop-k.invariant.2.upto)))
+left_side-spine_at-l-requires t c = (
+  slopes _ _ _ _ _ c.requires.ready c.requires.line,
+  forks_below _ _ _ _ _ c.requires.ready c.requires.line c.descend-low.ensures _ (omega (arith, c.loop-k.invariant.1, c.loop-k.invariant.2.upto)),
+)
 
 pub left_side-line_at-n-requires : goal.left_side-line_at-n-requires
-left_side-line_at-n-requires t c = line_whole _ _ _ _ _ _ _ _ _ c.requires.ready c.requires.line _ c.descend-low.ensures _ _ (omega (arith, c.loop-k.invariant.1, c.loop-k.invariant.2.upto)) c.spine_at-l.ensures
+left_side-line_at-n-requires t c =
+    line_whole _ _ _ _ _ c.requires.ready c.requires.line c.descend-low.ensures _ (omega (arith, c.loop-k.invariant.1, c.loop-k.invariant.2.upto)) c.spine_at-l.ensures
 
 pub left_side-node-e-requires : goal.left_side-node-e-requires
-left_side-node-e-requires t c = (omega (arith, c.decreases, (climb_in _ _ _ _ _ _ _ _ _ c.requires.ready c.requires.line _ c.descend-low.ensures _ _ _ c.simple-e.auto.tokens c.simple-e.auto.scratch _ _ _ _ c.loop-k.invariant.2 (c.descend-low.result.count - c.loop-k.k) (omega (arith, c.loop-k.invariant.1)) (omega arith) _ c.spine_at-l.ensures _ c.line_at-n.ensures).1), ((go_ready _ _ _ _ _ _ _ _ _ c.requires.ready c.requires.line _ c.descend-low.ensures _ _ _ c.simple-e.auto.tokens c.simple-e.auto.scratch _ _ _ _ c.loop-k.invariant.2 _ _ (goes_yes _ _ _ _ _ (sym c.goes_right.ensures ∙ c.if-goes_right.true))), climb_line _ _ _ _ _ _ _ _ _ c.requires.ready c.requires.line _ c.descend-low.ensures _ _ _ c.simple-e.auto.tokens c.simple-e.auto.scratch _ _ _ _ c.loop-k.invariant.2 (c.descend-low.result.count - c.loop-k.k) (omega (arith, c.loop-k.invariant.1)) (omega arith) _ c.spine_at-l.ensures _ c.line_at-n.ensures))
+left_side-node-e-requires t c =
+    let lower =
+    climb_in _ _ _ _ _ c.requires.ready c.requires.line c.descend-low.ensures c.simple-e.auto.tokens c.simple-e.auto.scratch c.loop-k.invariant.2
+    (c.descend-low.result.count - c.loop-k.k) (omega (arith, c.loop-k.invariant.1)) (omega arith) c.spine_at-l.ensures c.line_at-n.ensures in
+    let ready =
+    go_ready _ _ _ _ _ c.requires.ready c.requires.line c.descend-low.ensures c.simple-e.auto.tokens c.simple-e.auto.scratch c.loop-k.invariant.2
+    _ (goes_yes _ _ _ _ _ (sym c.goes_right.ensures ∙ c.if-goes_right.true)) in
+    let line =
+    climb_line _ _ _ _ _ c.requires.ready c.requires.line c.descend-low.ensures c.simple-e.auto.tokens c.simple-e.auto.scratch c.loop-k.invariant.2
+    (c.descend-low.result.count - c.loop-k.k) (omega (arith, c.loop-k.invariant.1)) (omega arith) c.spine_at-l.ensures c.line_at-n.ensures in
+    (omega (arith, c.decreases, lower.1), (ready, line))
 
 pub left_side-loop-k-preserved : goal.left_side-loop-k-preserved
 left_side-loop-k-preserved t c =
@@ -65,17 +87,23 @@ left_side-loop-k-preserved t c =
       | left_side-then-goes_right w ↦ rw (w.tokens-is, w.scratch-is, w.s-is, w.e-is) (
         c.descend-low.result.count - c.loop-k.k,
         omega arith,
-        climb_go _ _ _ _ _ _ _ _ _ c.requires.ready c.requires.line _ c.descend-low.ensures _ _ _ c.simple-e.auto.tokens c.simple-e.auto.scratch _ _ _ _ c.loop-k.invariant.2 (c.descend-low.result.count - c.loop-k.k) (omega (arith, c.loop-k.invariant.1)) (omega arith) _ c.spine_at-l.ensures _ c.line_at-n.ensures _ (goes_yes _ _ _ _ _ (sym c.goes_right.ensures ∙ w.if-goes_right.true)) _ _ _ w.node-e.ensures w.node-e.auto.tokens w.node-e.auto.scratch,
+        climb_go _ _ _ _ _ c.requires.ready c.requires.line c.descend-low.ensures c.simple-e.auto.tokens c.simple-e.auto.scratch c.loop-k.invariant.2
+            (c.descend-low.result.count - c.loop-k.k) (omega (arith, c.loop-k.invariant.1)) (omega arith) c.spine_at-l.ensures c.line_at-n.ensures
+            (goes_yes _ _ _ _ _ (sym c.goes_right.ensures ∙ w.if-goes_right.true)) w.node-e.ensures w.node-e.auto.tokens w.node-e.auto.scratch,
       )
       | left_side-else-goes_right w ↦ rw (w.tokens-is, w.scratch-is, w.s-is, w.e-is) (
         c.descend-low.result.count - c.loop-k.k,
         omega arith,
-        climb_stay _ _ _ _ _ _ _ _ _ c.requires.ready c.requires.line _ c.descend-low.ensures _ _ _ c.simple-e.auto.tokens c.simple-e.auto.scratch _ _ _ _ c.loop-k.invariant.2 (c.descend-low.result.count - c.loop-k.k) (omega (arith, c.loop-k.invariant.1)) (omega arith) _ c.spine_at-l.ensures _ c.line_at-n.ensures (goes_no _ _ _ _ _ (sym c.goes_right.ensures ∙ w.if-goes_right.false)),
+        climb_stay _ _ _ _ _ c.requires.ready c.requires.line c.descend-low.ensures c.simple-e.auto.tokens c.simple-e.auto.scratch c.loop-k.invariant.2
+            (c.descend-low.result.count - c.loop-k.k) (omega (arith, c.loop-k.invariant.1)) (omega arith) c.spine_at-l.ensures c.line_at-n.ensures
+            (goes_no _ _ _ _ _ (sym c.goes_right.ensures ∙ w.if-goes_right.false)),
       )
     ]
 
 pub left_side-returns : goal.left_side-returns
-left_side-returns t c = climbed _ _ _ _ _ _ _ _ _ c.requires.ready c.requires.line _ c.descend-low.ensures _ _ _ c.simple-e.auto.tokens c.simple-e.auto.scratch _ _ _ _ c.loop-k.invariant.2 (omega (arith, c.loop-k.invariant.1)) c.simple-e.ensures
+left_side-returns t c =
+    climbed _ _ _ _ _ c.requires.ready c.requires.line c.descend-low.ensures c.simple-e.auto.tokens c.simple-e.auto.scratch c.loop-k.invariant.2
+    (omega (arith, c.loop-k.invariant.1)) c.simple-e.ensures
 
 -- ── lookahead ──
 -- An open entry, a checkpoint of the state that looks ahead, the body, `lookahead_end`: put together by `lookahead_step`.
@@ -102,7 +130,8 @@ lookahead-lookahead_end-requires t c =
     let o = let_in (lookahead_at c.args.g.now c.requires.ready c.line_at-n.ensures c.requires.line) c.enter.ensures c.in-Some.is in
     let looking = ready_looking _ _ _ _ o.ready c.lookahead_in-s.result in
     let marked = ready_marked _ _ _ _ looking o.entry.next (c.checkpoint.ensures.state_after c.args.tokens.now) c.checkpoint.auto.scratch in
-    body_ready _ _ _ _ _ marked c.node-r.new.tokens c.node-r.new.scratch c.node-r.auto.scratch c.node-r.new.s c.node-r.result c.node-r.ensures (omega arith)
+    body_ready _ _ _ _ _ marked
+    c.node-r.new.tokens c.node-r.new.scratch c.node-r.auto.scratch c.node-r.new.s c.node-r.result c.node-r.ensures (omega arith)
 
 pub lookahead-returns : goal.lookahead-returns
 lookahead-returns t c =
@@ -131,7 +160,8 @@ optional-returns t c =
     on_tree o.over (optional_step _ _ _ _ _ o.entry c.node-r.ensures (c.optional_end.ensures c.node-r.new.tokens c.node-r.new.scratch))
 
 -- ── packed_node ──
--- Each turn goes over leaves, and then over one fork to its right side; what is left to evaluate is what was to evaluate (Walks). The ending goes out as its number.
+-- Each turn goes over leaves, and then over one fork to its right side; what is left to evaluate is what was to evaluate (Walks).
+-- The ending goes out as its number.
 
 pub packed_node-returns-in-Done : goal.packed_node-returns-in-Done
 packed_node-returns-in-Done t c =
@@ -143,30 +173,46 @@ packed_node-returns-in-Done t c =
 
 pub packed_node-line_at-n-requires : goal.packed_node-line_at-n-requires
 packed_node-line_at-n-requires t c =
-    let on = at_fork c.args.g.now c.args.depth c.loop-good.at _ _ (c.walk-halt.ensures _ _ c.loop-good.invariant.ready.fit refl) _ c.in-At.is c.loop-good.invariant in
+    let w = c.loop-good.invariant in
+    let on = at_fork c.args.g.now c.args.depth c.loop-good.at _ _ (c.walk-halt.ensures _ _ w.ready.fit refl) _ c.in-At.is w in
     whole _ _ (tests _ _ _ _ c.requires.ready) _ on.here
 
 pub packed_node-left_side-e-requires : goal.packed_node-left_side-e-requires
 packed_node-left_side-e-requires t c =
-    let on = at_fork c.args.g.now c.args.depth c.loop-good.at _ _ (c.walk-halt.ensures _ _ c.loop-good.invariant.ready.fit refl) _ c.in-At.is c.loop-good.invariant in
+    let w = c.loop-good.invariant in
+    let on = at_fork c.args.g.now c.args.depth c.loop-good.at _ _ (c.walk-halt.ensures _ _ w.ready.fit refl) _ c.in-At.is w in
     (omega (arith, c.decreases, on.upto), (on.ready, on.here))
 
 pub packed_node-returns-then-not-goes_right : goal.packed_node-returns-then-not-goes_right
 packed_node-returns-then-not-goes_right t c =
-    let on = at_fork c.args.g.now c.args.depth c.loop-good.at _ _ (c.walk-halt.ensures _ _ c.loop-good.invariant.ready.fit refl) _ c.in-At.is c.loop-good.invariant in
-    told _ _ _ (top_stay _ _ _ _ _ _ _ _ _ on.ready on.here _ c.left_side-e.ensures _ c.line_at-n.ensures (goes_no _ _ _ _ _ (sym c.goes_right.ensures ∙ refused_test c.goes_right.result (ap not c.if-not-goes_right.true))) ∙ on.runs) (sym c.packed-then-not-goes_right.ensures.back)
+    let w = c.loop-good.invariant in
+    let on = at_fork c.args.g.now c.args.depth c.loop-good.at _ _ (c.walk-halt.ensures _ _ w.ready.fit refl) _ c.in-At.is w in
+    let stays = refused_test c.goes_right.result (ap not c.if-not-goes_right.true) in
+    let top = top_stay _ _ _ _ _ on.ready on.here c.left_side-e.ensures c.line_at-n.ensures (goes_no _ _ _ _ _ (sym c.goes_right.ensures ∙ stays)) in
+    told _ _ _ (top ∙ on.runs) (sym c.packed-then-not-goes_right.ensures.back)
 
 pub packed_node-loop-good-smaller : goal.packed_node-loop-good-smaller
 packed_node-loop-good-smaller t c =
-    let on = at_fork c.args.g.now c.args.depth c.loop-good.at _ _ (c.walk-halt.ensures _ _ c.loop-good.invariant.ready.fit refl) _ c.in-At.is c.loop-good.invariant in
-    let is_fork = fork_at _ _ _ c.line_at-n.ensures (goes_fork _ _ (sym c.goes_right.ensures ∙ passed_test c.goes_right.result (ap not c.if-not-goes_right.false))) in
-    omega (arith, (top_in _ _ _ _ _ _ _ _ _ on.ready on.here is_fork c.left_side-e.new.tokens c.left_side-e.new.scratch c.left_side-e.auto.tokens c.left_side-e.auto.scratch _ c.left_side-e.ensures _ c.line_at-n.ensures).1, no_higher c.args.g.now c.args.depth c.loop-good.at (view c.loop-good.tokens c.loop-good.scratch c.loop-good.s) _ (c.walk-halt.ensures _ _ c.loop-good.invariant.ready.fit refl) _ c.in-At.is)
+    let w = c.loop-good.invariant in
+    let on = at_fork c.args.g.now c.args.depth c.loop-good.at _ _ (c.walk-halt.ensures _ _ w.ready.fit refl) _ c.in-At.is w in
+    let goes = sym c.goes_right.ensures ∙ passed_test c.goes_right.result (ap not c.if-not-goes_right.false) in
+    let is_fork = fork_at _ _ _ c.line_at-n.ensures (goes_fork _ _ goes) in
+    let lower = (top_in _ _ _ _ _ on.ready on.here is_fork c.left_side-e.ensures c.line_at-n.ensures).1 in
+    omega (
+      arith,
+      lower,
+      no_higher c.args.g.now c.args.depth c.loop-good.at (view c.loop-good.tokens c.loop-good.scratch c.loop-good.s) _
+          (c.walk-halt.ensures _ _ w.ready.fit refl) _ c.in-At.is,
+    )
 
 pub packed_node-loop-good-preserved : goal.packed_node-loop-good-preserved
 packed_node-loop-good-preserved t c =
-    let on = at_fork c.args.g.now c.args.depth c.loop-good.at _ _ (c.walk-halt.ensures _ _ c.loop-good.invariant.ready.fit refl) _ c.in-At.is c.loop-good.invariant in
-    let is_fork = fork_at _ _ _ c.line_at-n.ensures (goes_fork _ _ (sym c.goes_right.ensures ∙ passed_test c.goes_right.result (ap not c.if-not-goes_right.false))) in
-    top_go _ _ _ _ _ _ _ _ _ on.ready on.here is_fork c.left_side-e.new.tokens c.left_side-e.new.scratch c.left_side-e.auto.tokens c.left_side-e.auto.scratch _ c.left_side-e.ensures _ c.line_at-n.ensures _ _ _ _ on _ (goes_yes _ _ _ _ _ (sym c.goes_right.ensures ∙ passed_test c.goes_right.result (ap not c.if-not-goes_right.false)))
+    let w = c.loop-good.invariant in
+    let on = at_fork c.args.g.now c.args.depth c.loop-good.at _ _ (c.walk-halt.ensures _ _ w.ready.fit refl) _ c.in-At.is w in
+    let goes = sym c.goes_right.ensures ∙ passed_test c.goes_right.result (ap not c.if-not-goes_right.false) in
+    let is_fork = fork_at _ _ _ c.line_at-n.ensures (goes_fork _ _ goes) in
+    top_go _ _ _ _ _ on.ready on.here is_fork c.left_side-e.ensures c.line_at-n.ensures c.left_side-e.auto.tokens c.left_side-e.auto.scratch on
+    (goes_yes _ _ _ _ _ goes)
 
 -- ── repeat ──
 -- Each turn is the body once more: what is left to run is what was to run (Turns). The body moves on Ok, so that the turns end.
@@ -174,12 +220,12 @@ packed_node-loop-good-preserved t c =
 pub repeat-returns-in_default : goal.repeat-returns-in_default
 repeat-returns-in_default t c =
     on_tree (repeat_at c.args.g.now c.requires.ready c.line_at-n.ensures c.requires.line)
-    (repeat_refused _ _ _ _ _ _ _ _ (shut_out c.args.tokens.now c.args.scratch.now c.enter.ensures c.in_default.is))
+    (repeat_refused _ _ _ _ _ (shut_out c.args.tokens.now c.args.scratch.now c.enter.ensures c.in_default.is))
 
 pub repeat-loop-s-init : goal.repeat-loop-s-init
 repeat-loop-s-init t c =
     let o = let_in (repeat_at c.args.g.now c.requires.ready c.line_at-n.ensures c.requires.line) c.enter.ensures c.in-Some.is in
-    first_turn _ _ _ _ _ _ _ o.entry.next _ _ _ (less o)
+    first_turn _ _ _ _ _ _ (less o)
 
 pub repeat-node-requires : goal.repeat-node-requires
 repeat-node-requires t c =
@@ -190,27 +236,25 @@ pub repeat-loop-s-smaller : goal.repeat-loop-s-smaller
 repeat-loop-s-smaller t c =
     let o = let_in (repeat_at c.args.g.now c.requires.ready c.line_at-n.ensures c.requires.line) c.enter.ensures c.in-Some.is in
     let moves = moves_10 _ _ (tests _ _ _ _ c.requires.ready) _ c.requires.line.0 _ c.line_at-n.ensures c.requires.line.1 in
-    let on = view c.node.new.tokens c.node.new.scratch c.node.new.s in
-    let w = turned _ _ _ _ _ _ _ o.entry.next _ _ _ on c.loop-s.invariant.ready o.over.here moves (told _ _ _ c.node.ensures c.in-Ok.is) in
+    let w = turned _ _ _ _ _ _ c.loop-s.invariant.ready o.over.here moves (told _ _ _ c.node.ensures c.in-Ok.is) in
     omega (arith, w.0, w.1)
 
 pub repeat-loop-s-preserved : goal.repeat-loop-s-preserved
 repeat-loop-s-preserved t c =
     let o = let_in (repeat_at c.args.g.now c.requires.ready c.line_at-n.ensures c.requires.line) c.enter.ensures c.in-Some.is in
     let moves = moves_10 _ _ (tests _ _ _ _ c.requires.ready) _ c.requires.line.0 _ c.line_at-n.ensures c.requires.line.1 in
-    let on = view c.node.new.tokens c.node.new.scratch c.node.new.s in
-    next_turn _ _ _ _ _ _ _ o.entry.next _ _ _ _ _ _ _ _ on o.over.here moves c.loop-s.invariant (told _ _ _ c.node.ensures c.in-Ok.is) c.node.auto.tokens c.node.auto.scratch
+    next_turn _ _ _ _ _ _ c.loop-s.invariant o.over.here moves (told _ _ _ c.node.ensures c.in-Ok.is) c.node.auto.tokens c.node.auto.scratch
 
 pub repeat-returns-in-Err : goal.repeat-returns-in-Err
 repeat-returns-in-Err t c =
     let o = let_in (repeat_at c.args.g.now c.requires.ready c.line_at-n.ensures c.requires.line) c.enter.ensures c.in-Some.is in
     on_tree o.over
-    (repeat_err _ _ _ _ _ _ _ o.entry.next _ _ _ _ _ _ _ o.entry.opens c.loop-s.invariant _ (told _ _ _ c.node.ensures c.in-Err.is) _ (c.forgiven.ensures c.node.new.tokens c.node.new.scratch))
+    (repeat_err _ _ _ _ _ _ c.loop-s.invariant o.entry (told _ _ _ c.node.ensures c.in-Err.is) (c.forgiven.ensures c.node.new.tokens c.node.new.scratch))
 
 pub repeat-returns-in-Stop : goal.repeat-returns-in-Stop
 repeat-returns-in-Stop t c =
     let o = let_in (repeat_at c.args.g.now c.requires.ready c.line_at-n.ensures c.requires.line) c.enter.ensures c.in-Some.is in
-    on_tree o.over (repeat_stop _ _ _ _ _ _ _ o.entry.next _ _ _ _ _ _ _ o.entry.opens c.loop-s.invariant _ (told _ _ _ c.node.ensures c.in-Stop.is))
+    on_tree o.over (repeat_stop _ _ _ _ _ _ c.loop-s.invariant o.entry (told _ _ _ c.node.ensures c.in-Stop.is))
 
 -- ── restore_on_err ──
 -- An open entry, which is not counted, a checkpoint, the body, `restore_on_err_end`: put together by `restore_step`.
@@ -263,7 +307,8 @@ rule-start_rule-requires t c =
 pub rule-node-r-requires : goal.rule-node-r-requires
 rule-node-r-requires t c =
     let o = let_in (rule_at c.args.g.now c.requires.ready c.line_at-n.ensures c.requires.line) c.enter.ensures c.in-Some.is in
-    calls o c.decreases (begun _ _ _ _ o.entry.next o.ready _ (told _ _ _ (c.start_rule.ensures.state_after (setting c.args.g.now) c.args.scratch.now refl) c.in-Ok.is) c.start_rule.auto.tokens)
+    let begins = told _ _ _ (c.start_rule.ensures.state_after (setting c.args.g.now) c.args.scratch.now refl) c.in-Ok.is in
+    calls o c.decreases (begun _ _ _ _ o.entry.next o.ready _ begins c.start_rule.auto.tokens)
 
 pub rule-overflow_cast-begun-2 : goal.rule-overflow_cast-begun-2
 rule-overflow_cast-begun-2 t c =
@@ -273,25 +318,30 @@ rule-overflow_cast-begun-2 t c =
 pub rule-rule_end-requires : goal.rule-rule_end-requires
 rule-rule_end-requires t c =
     let o = let_in (rule_at c.args.g.now c.requires.ready c.line_at-n.ensures c.requires.line) c.enter.ensures c.in-Some.is in
-    body_rule _ _ _ _ _ (begun _ _ _ _ o.entry.next o.ready _ (told _ _ _ (c.start_rule.ensures.state_after (setting c.args.g.now) c.args.scratch.now refl) c.in-Ok.is) c.start_rule.auto.tokens)
-    c.node-r.new.tokens c.node-r.new.scratch c.node-r.auto.scratch c.node-r.new.s c.node-r.result c.node-r.ensures c.node-r.auto.tokens (place_of _ _ _ _ c.enter.new.s o.ready)
+    let begins = told _ _ _ (c.start_rule.ensures.state_after (setting c.args.g.now) c.args.scratch.now refl) c.in-Ok.is in
+    body_rule _ _ _ _ _ (begun _ _ _ _ o.entry.next o.ready _ begins c.start_rule.auto.tokens)
+    c.node-r.new.tokens c.node-r.new.scratch c.node-r.auto.scratch c.node-r.new.s c.node-r.result c.node-r.ensures c.node-r.auto.tokens
+    (place_of _ _ _ _ c.enter.new.s o.ready)
 
 pub rule-returns-in-Ok : goal.rule-returns-in-Ok
 rule-returns-in-Ok t c =
     let o = let_in (rule_at c.args.g.now c.requires.ready c.line_at-n.ensures c.requires.line) c.enter.ensures c.in-Some.is in
+    let begins = told _ _ _ (c.start_rule.ensures.state_after (setting c.args.g.now) c.args.scratch.now refl) c.in-Ok.is in
     on_tree o.over
-    (rule_step _ _ _ _ _ _ _ o.entry (told _ _ _ (c.start_rule.ensures.state_after (setting c.args.g.now) c.args.scratch.now refl) c.in-Ok.is) c.node-r.ensures (held _ refl) (placed refl)
+    (rule_step _ _ _ _ _ _ _ o.entry begins c.node-r.ensures (held _ refl) (placed refl)
     (c.note.ensures c.args.scratch.now) (c.rule_end.ensures (setting c.args.g.now) refl))
 
 pub rule-returns-in-Err : goal.rule-returns-in-Err
 rule-returns-in-Err t c =
     let o = let_in (rule_at c.args.g.now c.requires.ready c.line_at-n.ensures c.requires.line) c.enter.ensures c.in-Some.is in
-    on_tree o.over (rule_err _ _ _ _ _ _ _ o.entry (told _ _ _ (c.start_rule.ensures.state_after (setting c.args.g.now) c.args.scratch.now refl) c.in-Err.is))
+    on_tree o.over
+    (rule_err _ _ _ _ _ _ _ o.entry (told _ _ _ (c.start_rule.ensures.state_after (setting c.args.g.now) c.args.scratch.now refl) c.in-Err.is))
 
 pub rule-returns-in-Stop : goal.rule-returns-in-Stop
 rule-returns-in-Stop t c =
     let o = let_in (rule_at c.args.g.now c.requires.ready c.line_at-n.ensures c.requires.line) c.enter.ensures c.in-Some.is in
-    on_tree o.over (rule_stop _ _ _ _ _ _ _ o.entry (told _ _ _ (c.start_rule.ensures.state_after (setting c.args.g.now) c.args.scratch.now refl) c.in-Stop.is))
+    on_tree o.over
+    (rule_stop _ _ _ _ _ _ _ o.entry (told _ _ _ (c.start_rule.ensures.state_after (setting c.args.g.now) c.args.scratch.now refl) c.in-Stop.is))
 
 -- ── sequence ──
 -- An open entry, a checkpoint, the body, `sequence_end`: each one's equation, put together by `sequence_step`.
@@ -314,8 +364,9 @@ sequence-node-r-requires t c =
 pub sequence-sequence_end-requires : goal.sequence-sequence_end-requires
 sequence-sequence_end-requires t c =
     let o = let_in (sequence_at c.args.g.now c.requires.ready c.line_at-n.ensures c.requires.line) c.enter.ensures c.in-Some.is in
-    body_ready _ _ _ _ _ (marked o c.checkpoint.new.s (c.checkpoint.ensures.state_after c.args.tokens.now) c.checkpoint.auto.scratch) c.node-r.new.tokens c.node-r.new.scratch c.node-r.auto.scratch
-    c.node-r.new.s c.node-r.result c.node-r.ensures (marked_queue c.args.tokens.now _ _ c.enter.new.s c.checkpoint.new.s (c.checkpoint.ensures.state_after c.args.tokens.now))
+    body_ready _ _ _ _ _ (marked o c.checkpoint.new.s (c.checkpoint.ensures.state_after c.args.tokens.now) c.checkpoint.auto.scratch)
+    c.node-r.new.tokens c.node-r.new.scratch c.node-r.auto.scratch c.node-r.new.s c.node-r.result c.node-r.ensures
+    (marked_queue c.args.tokens.now _ _ c.enter.new.s c.checkpoint.new.s (c.checkpoint.ensures.state_after c.args.tokens.now))
 
 pub sequence-returns : goal.sequence-returns
 sequence-returns t c =
@@ -349,7 +400,8 @@ stack_push-node-r-requires t c =
 pub stack_push-push_end-requires : goal.stack_push-push_end-requires
 stack_push-push_end-requires t c =
     let o = let_in (push_at c.args.g.now c.requires.ready c.line_at-n.ensures c.requires.line) c.enter.ensures c.in-Some.is in
-    body_push _ _ _ _ _ (less o) c.node-r.new.tokens c.node-r.new.scratch c.node-r.auto.scratch c.node-r.new.s c.node-r.result c.node-r.ensures o.ready.fit.edge.inside
+    body_push _ _ _ _ _ (less o)
+    c.node-r.new.tokens c.node-r.new.scratch c.node-r.auto.scratch c.node-r.new.s c.node-r.result c.node-r.ensures o.ready.fit.edge.inside
 
 pub stack_push-returns : goal.stack_push-returns
 stack_push-returns t c =
