@@ -66,7 +66,8 @@ left_side-spine_at-l-requires t c = (
 
 pub left_side-line_at-n-requires : goal.left_side-line_at-n-requires
 left_side-line_at-n-requires t c =
-    line_whole _ _ _ _ _ c.requires.ready c.requires.line c.descend-low.ensures _ (omega (arith, c.loop-k.invariant.1, c.loop-k.invariant.2.upto)) c.spine_at-l.ensures
+    line_whole _ _ _ _ _ c.requires.ready c.requires.line c.descend-low.ensures _ (omega (arith, c.loop-k.invariant.1, c.loop-k.invariant.2.upto))
+    c.spine_at-l.ensures
 
 pub left_side-node-e-requires : goal.left_side-node-e-requires
 left_side-node-e-requires t c =
@@ -138,8 +139,8 @@ lookahead-returns t c =
     let o = let_in (lookahead_at c.args.g.now c.requires.ready c.line_at-n.ensures c.requires.line) c.enter.ensures c.in-Some.is in
     let looking = λ (l : Lookahead). Pest.checkpoint (Pest.set_lookahead l (view c.args.tokens.now c.args.scratch.now c.enter.new.s)) in
     on_tree o.over
-    (lookahead_step _ _ _ _ _ _ o.entry refl (c.checkpoint.ensures.state_after c.args.tokens.now ∙ ap looking c.lookahead_in-s.ensures) c.node-r.ensures (placed refl)
-    (c.lookahead_end.ensures c.node-r.new.tokens))
+    (lookahead_step _ _ _ _ _ _ o.entry refl (c.checkpoint.ensures.state_after c.args.tokens.now ∙ ap looking c.lookahead_in-s.ensures)
+    c.node-r.ensures (placed refl) (c.lookahead_end.ensures c.node-r.new.tokens))
 
 -- ── optional ──
 -- An open entry, the body, `optional_end`: put together by `optional_step`.
@@ -379,10 +380,14 @@ sequence-returns t c =
 -- Each kind's function answers for its line; a call is evaluated as the rule that it names.
 
 pub simple-rule-requires : goal.simple-rule-requires
-simple-rule-requires t c = (omega (arith, c.decreases), ((c.requires.ready), rule_line _ _ (tests _ _ _ _ c.requires.ready) _ c.requires.line.0 _ c.line_at-n.ensures c.in-8.is _ c.rule_line-at.ensures))
+simple-rule-requires t c =
+    let line = rule_line _ _ (tests _ _ _ _ c.requires.ready) _ c.requires.line.0 _ c.line_at-n.ensures c.in-8.is _ c.rule_line-at.ensures in
+    (omega (arith, c.decreases), (c.requires.ready, line))
 
 pub simple-returns-in-8 : goal.simple-returns-in-8
-simple-returns-in-8 t c = rule_runs _ _ (tests _ _ _ _ c.requires.ready) _ c.requires.line.0 _ c.line_at-n.ensures c.in-8.is _ c.rule_line-at.ensures _ _ _ _ _ c.rule.ensures
+simple-returns-in-8 t c =
+    rule_runs _ _ (tests _ _ _ _ c.requires.ready) _ c.requires.line.0 _ c.line_at-n.ensures c.in-8.is _ c.rule_line-at.ensures
+    _ _ _ _ _ c.rule.ensures
 
 -- ── stack_push ──
 -- An open entry, the body, `push_end` from where the body began: put together by `push_step`.
