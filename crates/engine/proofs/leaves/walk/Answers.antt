@@ -8,7 +8,8 @@ use borrow.Author.Tests.{not-false}
 use Rattle.reading.specs.Pest.{set_position}
 use Rattle.reading.proofs.Accepted.{accepted}
 use Rattle.engine.proofs.LineSteps.{whole}
-use Rattle.engine.proofs.LeafSteps.{kind_low, first_onto, last_ok, last_err, right_in, left_line, right_line, on_right, over_right, done_ok, done_err, walked_on}
+use Rattle.engine.proofs.LeafSteps.{kind_low, first_onto, last_ok, last_err, right_in, left_line, right_line, on_right, over_right, done_ok}
+use Rattle.engine.proofs.LeafSteps.{done_err, walked_on}
 use Rattle.engine.proofs.leaves.walk.Goals as goal
 
 pub loop-n-init : goal.loop-n-init

@@ -58,5 +58,7 @@ overflow_sub-result-2 c =
 pub returns : goal.returns
 returns c =
     let low : c.min-lowest.result ≡ min c.pair_at-outer.result.1 c.pair_at-tall.result.1 = grind (arith, common_steps) in
-    let all = clear_more c.args.scratch.now c.args.s c.requires c.if-c-eq0.false _ c.pair_at-tall.ensures c.if-c-eq1.false _ c.pair_at-outer.ensures _ _ _ _ low (omega arith) c.put_pair.ensures (drained_by _ _ _ _ _ _ (omega arith) c.copy_within.ensures.len c.copy_within.ensures.by_index) in
+    let all =
+    clear_more c.args.scratch.now c.args.s c.requires c.if-c-eq0.false _ c.pair_at-tall.ensures c.if-c-eq1.false _ c.pair_at-outer.ensures _ _ _ _ low
+    (omega arith) c.put_pair.ensures (drained_by _ _ _ _ _ _ (omega arith) c.copy_within.ensures.len c.copy_within.ensures.by_index) in
     record { state_after = all.0; outside_stack = all.1 }
