@@ -15,7 +15,7 @@ use Rattle.reading.specs.declared.parser_state.Ending.TheVariants as Code·of
 use Rattle.reading.specs.Ending.{Ending, Ok, Err, Stop, on_ok, stop_if, is_negative, is_atomic}
 use Rattle.reading.specs.Grammar.{end_of_input}
 use Rattle.reading.specs.Reading.{Setting, most_attempts}
-use Rattle.reading.specs.Pest.{ParserState, tracking, track, close_rule, rule_end}
+use Rattle.reading.specs.Pest.{ParserState, tracking, track, close_rule}
 use Rattle.engine.specs.Areas.{view, view_end}
 use Rattle.engine.specs.Ends.{rule_ended}
 use Rattle.engine.specs.Rule.{dropped, Recording}

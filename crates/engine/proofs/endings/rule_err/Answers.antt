@@ -2,8 +2,6 @@
 use mathlib.Core.Path.{◌≡◌, refl, ap}
 use mathlib.Core.Bool.{not}
 use Rattle.reading.specs.Ending.{Err, is_negative}
-use Rattle.engine.specs.declared.parser_state.ParserState.{ParserState}
-use Rattle.engine.specs.Areas.{view}
 use Rattle.engine.proofs.RuleEnds.{after_err}
 use borrow.Author.Rules.{rules}
 use Rattle.engine.proofs.endings.rule_err.Goals as goal

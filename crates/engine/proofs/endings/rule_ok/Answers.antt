@@ -1,8 +1,6 @@
 -- Tracking ends Ok, and the End is written to the state that it left; or it does not, and that is the end.
 use mathlib.Core.Path.{◌≡◌, refl}
 use Rattle.reading.specs.Ending.{is_negative}
-use Rattle.engine.specs.declared.parser_state.ParserState.{ParserState}
-use Rattle.engine.specs.Areas.{view}
 use Rattle.engine.proofs.RuleEnds.{after_ok, recording_after}
 use borrow.Author.Rules.{rules}
 use Rattle.engine.proofs.endings.rule_ok.Goals as goal

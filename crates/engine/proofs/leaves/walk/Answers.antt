@@ -8,21 +8,9 @@ use borrow.Author.Tests.{not-false}
 use Rattle.reading.specs.Pest.{set_position}
 use Rattle.reading.proofs.Accepted.{accepted}
 use Rattle.engine.proofs.LineSteps.{whole}
-use Rattle.engine.proofs.LeafSteps.{kind_low, first_onto, last_ok, last_err, right_in, left_line, right_line, on_right, over_right, done_ok}
+use Rattle.engine.proofs.LeafSteps.{kind_low, last_ok, last_err, right_in, left_line, right_line, on_right, over_right, done_ok}
 use Rattle.engine.proofs.LeafSteps.{done_err, walked_on}
 use Rattle.engine.proofs.leaves.walk.Goals as goal
-
-pub loop-n-init : goal.loop-n-init
-loop-n-init c = (c.requires.line, λ d m f x. first_onto _ _ _ _ d _ m _ c.requires.line f x)
-
-pub line_at-n-requires : goal.line_at-n-requires
-line_at-n-requires c = whole _ _ (accepted _ _ c.requires.accepted.0 c.requires.accepted.1) _ c.loop-n.invariant.0
-
-pub last-requires-clause-accepted : goal.last-requires-clause-accepted
-last-requires-clause-accepted c = c.requires.accepted
-
-pub last-requires-clause-line : goal.last-requires-clause-line
-last-requires-clause-line c = c.loop-n.invariant.0
 
 pub returns-then-not-is_fork : goal.returns-then-not-is_fork
 returns-then-not-is_fork c = λ d m f x.
@@ -34,12 +22,6 @@ line_at-m-requires c =
     let a = accepted _ _ c.requires.accepted.0 c.requires.accepted.1 in
     let f = c.is_fork.ensures.0 (not-false _ (ap not c.if-not-is_fork.false)) in
     whole _ _ a _ (left_line _ _ a _ c.loop-n.invariant.0 _ c.line_at-n.ensures f)
-
-pub returns-then-m-gt5 : goal.returns-then-m-gt5
-returns-then-m-gt5 c = λ d m f x. c.loop-n.invariant.1 d m f x
-
-pub leaf-requires-clause-accepted : goal.leaf-requires-clause-accepted
-leaf-requires-clause-accepted c = c.requires.accepted
 
 pub leaf-requires-clause-line : goal.leaf-requires-clause-line
 leaf-requires-clause-line c =

@@ -2,8 +2,8 @@
 use borrow.Author.Rules.{rules}
 use mathlib.Core.Path.{ap}
 use mathlib.Core.Bool.{not}
-use Rattle.engine.proofs.Steps.{passed_test, refused_test}
-use Rattle.engine.proofs.Spines.{first_slide, slide_in, slide_whole, slide_less, next_slide, last_slide}
+use Rattle.engine.proofs.Steps.{passed_test}
+use Rattle.engine.proofs.Spines.{first_slide, slide_in, slide_whole, slide_less, next_slide}
 use Rattle.engine.proofs.spine.descend.Goals as goal
 
 pub loop-n-init : goal.loop-n-init
@@ -21,6 +21,3 @@ loop-n-smaller c =
 
 pub loop-n-preserved : goal.loop-n-preserved
 loop-n-preserved c = next_slide _ _ _ _ c.loop-n.invariant _ c.line_at-n.ensures (c.is_fork.ensures.0 (passed_test _ (ap not c.if-not-is_fork.false)))
-
-pub returns-then-not-is_fork : goal.returns-then-not-is_fork
-returns-then-not-is_fork c = last_slide _ _ _ _ c.loop-n.invariant _ c.line_at-n.ensures (c.is_fork.ensures.1 (refused_test _ (ap not c.if-not-is_fork.true)))

@@ -3,7 +3,7 @@ use mathlib.Core.Path.{refl, ap, ◌∙◌}
 use lib.IntN.{ℤ}
 use Rattle.reading.specs.Reading.{index_in, end_in}
 use Rattle.checks.proofs.FieldLaws.{back}
-use Rattle.engine.proofs.StateSteps.{end_of, start_out, end_out, end_below, slice_empty, slice_moved}
+use Rattle.engine.proofs.StateSteps.{end_of, start_out, end_out, slice_empty, slice_moved}
 use Rattle.engine.proofs.stack_state.stack_match_peek_slice.Goals as goal
 
 pub returns-in_default : goal.returns-in_default
@@ -23,12 +23,6 @@ returns-then-end-start c =
     let last = c.normalize_end.ensures ∙ ap (λ (z : ℤ). end_in c.args.s.now.stack.height (end_of c.args.c z)) (back _ c.ranges.b) in
     slice_empty c.args.text.now c.args.scratch.now c.args.a c.args.b c.args.c c.args.s.now _ refl first c.in-Some.is last c.in-Some-normalize_end.is
     c.if-end-start.true
-
-pub match_slice-requires : goal.match_slice-requires
-match_slice-requires c =
-    let first = c.normalize_index.ensures ∙ ap (λ (z : ℤ). index_in c.args.s.now.stack.height z) (back _ c.ranges.a) in
-    let last = c.normalize_end.ensures ∙ ap (λ (z : ℤ). end_in c.args.s.now.stack.height (end_of c.args.c z)) (back _ c.ranges.b) in
-    (c.requires, end_below c.args.text.now c.args.scratch.now c.args.a c.args.b c.args.c c.args.s.now _ refl first c.in-Some.is last c.in-Some-normalize_end.is)
 
 pub returns : goal.returns
 returns c =

@@ -1,10 +1,7 @@
 -- One law of StateSteps for each answer of `match_pop`.
 use mathlib.Core.Path.{refl}
-use Rattle.engine.proofs.StateSteps.{stack_read, popped_some, popped_indebted}
+use Rattle.engine.proofs.StateSteps.{popped_some, popped_indebted}
 use Rattle.engine.proofs.stack_state.stack_match_pop.Goals as goal
-
-pub match_pop-requires : goal.match_pop-requires
-match_pop-requires c = stack_read refl c.requires
 
 pub returns-in-Some-clause-state_after : goal.returns-in-Some-clause-state_after
 returns-in-Some-clause-state_after c =

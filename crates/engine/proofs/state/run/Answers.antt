@@ -1,8 +1,5 @@
 -- A refused run, or a started one.
 use mathlib.Core.Path.{sym, ap, ◌∙◌}
-use lib.ListN.{length}
-use Rattle.reading.specs.Outcome.{Input}
-use Rattle.reading.specs.Run.{input}
 use Rattle.checks.specs.Refusals.{refused_of}
 use Rattle.checks.proofs.RefusalLaws.{of_input, not_refused}
 use Rattle.engine.proofs.RunLaws.{refused_is}

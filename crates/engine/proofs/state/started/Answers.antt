@@ -1,8 +1,5 @@
 -- The evaluation of the root from the first state, and its end.
 use mathlib.Core.Path.{refl, sym}
-use lib.ListN.{length}
-use Rattle.reading.specs.Outcome.{Input}
-use Rattle.reading.specs.Run.{input}
 use Rattle.engine.proofs.Steps.{told}
 use Rattle.engine.proofs.RunLaws.{ready, at_last, ran_is, concludable, run_is}
 use Rattle.engine.proofs.state.started.Goals as goal
