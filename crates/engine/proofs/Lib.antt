@@ -18,10 +18,10 @@ pub mod RuleLaws
 pub mod RuleEnds
 pub mod ConcludeLaws
 pub mod Steps
-pub mod LetIn
 pub mod Turns
 pub mod LineFields
 pub mod LineSteps
+pub mod LetIn
 pub mod TerminalSteps
 pub mod Walks
 pub mod LeafSteps

@@ -250,7 +250,7 @@ module _ (text : List ℕ) (i : ℤ) (j : Option ℤ) (d : Bool) (m : Pest.Parse
 abbrev pub end_of : (c : ℕ) → (b : ℤ) → Option ℤ
 end_of c b = if ltb c 2 then Some b else None
 
-module _ (text a : List ℕ) (i b : ℤ) (c : ℕ) (s : ParserState) (v : Stack) (ev : v ≡ s.stack) (r : Option ℕ) (er : r ≡ index_in v.height i) where
+module _ (text a : List ℕ) (i b : ℤ) (c : ℕ) (s : ParserState) (v : Stack) (ev : v ≡ s.stack) {r : Option ℕ} (er : r ≡ index_in v.height i) where
   tall : (tokens : List ℕ) → length (view tokens a s).stack.cache ≡ v.height
   tall tokens = pairs_length span a 0 s.stack.height ∙ sym (ap (λ (u : Stack). u.height) ev)
 
@@ -260,7 +260,7 @@ module _ (text a : List ℕ) (i b : ℤ) (c : ℕ) (s : ParserState) (v : Stack)
   pub start_out : r ≡ None → (tokens : List ℕ) → Err (view tokens a s) ≡ stack_match_peek_slice text i (end_of c b) down (view tokens a s)
   start_out f tokens = peek_start_out text i (end_of c b) down (view tokens a s) v.height (tall tokens) (index_out (normalize_index i v.height) r (pest_index i v.height er) f)
 
-  module _ (start : ℕ) (f : r ≡ Some start) (r₂ : Option ℕ) (er₂ : r₂ ≡ end_in v.height (end_of c b)) where
+  module _ {start : ℕ} (f : r ≡ Some start) {r₂ : Option ℕ} (er₂ : r₂ ≡ end_in v.height (end_of c b)) where
     start_is : normalize_index i v.height ≡ Some start
     start_is = index_at (normalize_index i v.height) r start (pest_index i v.height er) f
 
@@ -268,7 +268,7 @@ module _ (text a : List ℕ) (i b : ℤ) (c : ℕ) (s : ParserState) (v : Stack)
     end_out g tokens =
         peek_end_out text i (end_of c b) down (view tokens a s) v.height (tall tokens) start start_is (index_out (normalize_end (end_of c b) v.height) r₂ (pest_end (end_of c b) v.height er₂) g)
 
-    module _ (end : ℕ) (g : r₂ ≡ Some end) where
+    module _ {end : ℕ} (g : r₂ ≡ Some end) where
       end_is : normalize_end (end_of c b) v.height ≡ Some end
       end_is = index_at (normalize_end (end_of c b) v.height) r₂ end (pest_end (end_of c b) v.height er₂) g
 

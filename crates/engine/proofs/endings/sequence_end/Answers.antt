@@ -9,4 +9,7 @@ use Rattle.engine.proofs.endings.sequence_end.Goals as goal
 
 pub returns-in-Err : goal.returns-in-Err
 returns-in-Err c = let s : ParserState = c.args.s.now in
-    λ tokens. rw c.in-Err.is (ap Err (c.restored.ensures.state_after tokens ∙ ap restored (cut_view c.args.scratch.now s _ c.args.position c.args.queue s.lookahead refl tokens (subst (EndReady c.args.scratch.now c.args.queue.0 s) c.in-Err.is c.requires).1)))
+    let short = (subst (EndReady c.args.scratch.now c.args.queue.0 s) c.in-Err.is c.requires).1 in
+    λ tokens.
+    let cut = cut_view c.args.scratch.now s _ c.args.position c.args.queue s.lookahead refl tokens short in
+    rw c.in-Err.is (ap Err (c.restored.ensures.state_after tokens ∙ ap restored cut))

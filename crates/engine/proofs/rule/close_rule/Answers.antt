@@ -17,15 +17,19 @@ pub returns-then-not-produces-clause-state_after : goal.returns-then-not-produce
 returns-then-not-produces-clause-state_after c =
     let a : List ℕ = c.args.tokens.now in
     let s : ParserState = c.args.s.now in
-    let off : ((scratch : List ℕ) → produces (view a scratch s) ≡ false) = λ scratch. sym (c.produces.ensures a scratch) ∙ refused_test _ (ap not c.if-not-produces.true) in
+    let off : ((scratch : List ℕ) → produces (view a scratch s) ≡ false) =
+    λ scratch. sym (c.produces.ensures a scratch) ∙ refused_test _ (ap not c.if-not-produces.true) in
     λ g scratch e. close_off g c.args.b.now.line c.args.b.now.rule c.args.b.now.index.0 (view a scratch s) (off scratch)
 
 pub returns-then-room-n-clause-state_after : goal.returns-then-room-n-clause-state_after
 returns-then-room-n-clause-state_after c =
     let a : List ℕ = c.args.tokens.now in
     let s : ParserState = c.args.s.now in
-    let on : ((scratch : List ℕ) → produces (view a scratch s) ≡ true) = λ scratch. sym (c.produces.ensures a scratch) ∙ passed_test _ (ap not c.if-not-produces.false) in
-    λ g scratch e. close_full g c.args.b.now.line c.args.b.now.rule c.args.b.now.index.0 (view a scratch s) (on scratch) (room_no a _ _ refl c.args.room g.capacity e c.if-room-n.true)
+    let on : ((scratch : List ℕ) → produces (view a scratch s) ≡ true) =
+    λ scratch. sym (c.produces.ensures a scratch) ∙ passed_test _ (ap not c.if-not-produces.false) in
+    λ g scratch e.
+    close_full g c.args.b.now.line c.args.b.now.rule c.args.b.now.index.0 (view a scratch s) (on scratch)
+    (room_no a _ _ refl c.args.room g.capacity e c.if-room-n.true)
 
 pub returns-clause-state_after : goal.returns-clause-state_after
 returns-clause-state_after c =
@@ -34,7 +38,11 @@ returns-clause-state_after c =
     let d : List ℕ = c.push_end.new.tokens in
     let s : ParserState = c.args.s.now in
     let i : ℕ = c.args.b.now.index.0 in
-    let on : ((scratch : List ℕ) → produces (view a scratch s) ≡ true) = λ scratch. sym (c.produces.ensures a scratch) ∙ passed_test _ (ap not c.if-not-produces.false) in
+    let on : ((scratch : List ℕ) → produces (view a scratch s) ≡ true) =
+    λ scratch. sym (c.produces.ensures a scratch) ∙ passed_test _ (ap not c.if-not-produces.false) in
     let pair : Paired a i s.queue.0 b = paired_at a b s _ i refl c.pair_up.ensures in
     let push : Pushed b s.queue.0 (End i c.args.b.now.rule 0 s.position.0) d = pushed_at b d s _ _ (End i c.args.b.now.rule 0) refl refl c.push_end.ensures in
-    λ g scratch e. ap (λ (m : Pest.ParserState). Ok m) (one_more d scratch s _ _ refl refl) ∙ close_ok g c.args.b.now.line c.args.b.now.rule i (view a scratch s) _ _ (on scratch) (room_yes a _ _ refl c.args.room g.capacity e c.if-room-n.false) (paired_queue a b i s.queue.0 pair) push.queue
+    λ g scratch e.
+    ap (λ (m : Pest.ParserState). Ok m) (one_more d scratch s _ _ refl refl) ∙ close_ok g c.args.b.now.line c.args.b.now.rule i
+    (view a scratch s) _ _ (on scratch)
+    (room_yes a _ _ refl c.args.room g.capacity e c.if-room-n.false) (paired_queue a b i s.queue.0 pair) push.queue

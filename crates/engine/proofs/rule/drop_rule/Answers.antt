@@ -13,13 +13,18 @@ pub returns-then-index-s : goal.returns-then-index-s
 returns-then-index-s c =
     let s : ParserState = c.args.s.now in
     let i : ℕ = c.args.index.0 in
-    λ tokens scratch. drop_some i (view tokens scratch s) (queue_of tokens i) (sym (c.produces.ensures tokens scratch) ∙ c.if-produces.true) (sym (queue_take tokens s.queue.0 i (omega (arith, c.if-index-s.true))))
+    λ tokens scratch.
+    drop_some i (view tokens scratch s) (queue_of tokens i) (sym (c.produces.ensures tokens scratch) ∙ c.if-produces.true)
+    (sym (queue_take tokens s.queue.0 i (omega (arith, c.if-index-s.true))))
 
 pub returns-else-produces : goal.returns-else-produces
 returns-else-produces c =
     let s : ParserState = c.args.s.now in
     elim c.else-produces.branch [
       | else-produces-via-then-produces+else-index-s w ↦
-          λ tokens scratch. drop_none c.args.index.0 (view tokens scratch s) (sym (c.produces.ensures tokens scratch) ∙ w.if-produces.true) (omega (arith, queue_length tokens s.queue.0, w.if-index-s.false))
-      | else-produces-via-else-produces w ↦ λ tokens scratch. drop_off c.args.index.0 (view tokens scratch s) (sym (c.produces.ensures tokens scratch) ∙ w.if-produces.false)
+          λ tokens scratch.
+          drop_none c.args.index.0 (view tokens scratch s) (sym (c.produces.ensures tokens scratch) ∙ w.if-produces.true)
+          (omega (arith, queue_length tokens s.queue.0, w.if-index-s.false))
+      | else-produces-via-else-produces w ↦ λ tokens scratch. drop_off c.args.index.0 (view tokens scratch s)
+          (sym (c.produces.ensures tokens scratch) ∙ w.if-produces.false)
     ]

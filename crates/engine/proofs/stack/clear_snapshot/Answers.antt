@@ -10,9 +10,6 @@ use Rattle.engine.proofs.stack.clear_snapshot.Goals as goal
 pub returns-then-c-eq0-clause-state_after : goal.returns-then-c-eq0-clause-state_after
 returns-then-c-eq0-clause-state_after c = (clear_none c.args.scratch.now c.args.s c.requires c.if-c-eq0.true).0
 
-pub returns-then-c-eq0-clause-outside_stack : goal.returns-then-c-eq0-clause-outside_stack
-returns-then-c-eq0-clause-outside_stack c = (clear_none c.args.scratch.now c.args.s c.requires c.if-c-eq0.true).1
-
 pub overflow_sub-n : goal.overflow_sub-n
 overflow_sub-n c = let t = top_is c.args.scratch.now c.args.s c.requires c.if-c-eq0.false _ c.pair_at-tall.ensures in omega arith
 
@@ -21,9 +18,6 @@ overflow_sub-result c = let t = top_is c.args.scratch.now c.args.s c.requires c.
 
 pub returns-then-c-eq1-clause-state_after : goal.returns-then-c-eq1-clause-state_after
 returns-then-c-eq1-clause-state_after c = (clear_one c.args.scratch.now c.args.s c.requires c.if-c-eq0.false _ c.pair_at-tall.ensures c.if-c-eq1.true).0
-
-pub returns-then-c-eq1-clause-outside_stack : goal.returns-then-c-eq1-clause-outside_stack
-returns-then-c-eq1-clause-outside_stack c = (clear_one c.args.scratch.now c.args.s c.requires c.if-c-eq0.false _ c.pair_at-tall.ensures c.if-c-eq1.true).1
 
 pub overflow_sub-from : goal.overflow_sub-from
 overflow_sub-from c =
@@ -58,5 +52,7 @@ overflow_sub-result-2 c =
 pub returns : goal.returns
 returns c =
     let low : c.min-lowest.result ≡ min c.pair_at-outer.result.1 c.pair_at-tall.result.1 = grind (arith, common_steps) in
-    let all = clear_more c.args.scratch.now c.args.s c.requires c.if-c-eq0.false _ c.pair_at-tall.ensures c.if-c-eq1.false _ c.pair_at-outer.ensures _ _ _ _ low (omega arith) c.put_pair.ensures (drained_by _ _ _ _ _ _ (omega arith) c.copy_within.ensures.len c.copy_within.ensures.by_index) in
+    let all =
+    clear_more c.args.scratch.now c.args.s c.requires c.if-c-eq0.false _ c.pair_at-tall.ensures c.if-c-eq1.false _ c.pair_at-outer.ensures _ _ _ _ low
+    (omega arith) c.put_pair.ensures (drained_by _ _ _ _ _ _ (omega arith) c.copy_within.ensures.len c.copy_within.ensures.by_index) in
     record { state_after = all.0; outside_stack = all.1 }

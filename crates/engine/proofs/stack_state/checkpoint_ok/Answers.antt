@@ -1,14 +1,9 @@
 -- Only the stack of the state changed.
 use mathlib.Core.Path.{refl}
 use Rattle.reading.specs.Pest.{clear_snapshot}
-use Rattle.engine.proofs.StateSteps.{stack_read, stack_changed}
+use Rattle.engine.proofs.StateSteps.{stack_changed}
 use Rattle.engine.proofs.stack_state.checkpoint_ok.Goals as goal
 
-pub clear_snapshot-s-requires : goal.clear_snapshot-s-requires
-clear_snapshot-s-requires c = stack_read refl c.requires
-
 pub returns-clause-state_after : goal.returns-clause-state_after
-returns-clause-state_after c = (stack_changed clear_snapshot _ c.requires refl (c.clear_snapshot-s.ensures.state_after, c.clear_snapshot-s.ensures.outside_stack) refl).0
-
-pub returns-clause-outside_stack : goal.returns-clause-outside_stack
-returns-clause-outside_stack c = (stack_changed clear_snapshot _ c.requires refl (c.clear_snapshot-s.ensures.state_after, c.clear_snapshot-s.ensures.outside_stack) refl).1
+returns-clause-state_after c =
+    (stack_changed clear_snapshot _ c.requires refl (c.clear_snapshot-s.ensures.state_after, c.clear_snapshot-s.ensures.outside_stack) refl).0
