@@ -25,7 +25,7 @@ use Rattle.engine.specs.Areas.{view, view_end}
 use Rattle.engine.specs.Evaluation.{setting_of, Line, evaluated, evaluates}
 use Rattle.engine.specs.declared.leaves.Halt.{Halt}
 use Rattle.engine.specs.declared.leaves.Halt.TheVariants as Halt-of
-use Rattle.engine.specs.declared.parser_state.Setting.{Setting as Given}
+use Rattle.engine.specs.declared.setting.Setting.{Setting as Given}
 use Rattle.engine.specs.Leaves.{WalkedFrom, Onto, Walked, answer}
 use Rattle.engine.specs.Lines.{line_of}
 use Rattle.engine.specs.Spine.{Fork, ending_of}

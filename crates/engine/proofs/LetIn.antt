@@ -15,7 +15,7 @@ use Rattle.reading.specs.Pest as Pest
 use Rattle.reading.specs.Reading as Reading
 use Rattle.engine.specs.declared.node.Line as Read
 use Rattle.engine.specs.declared.parser_state.ParserState.{ParserState}
-use Rattle.engine.specs.declared.parser_state.Setting.{Setting}
+use Rattle.engine.specs.declared.setting.Setting.{Setting}
 use Rattle.engine.specs.Areas.{view}
 use Rattle.engine.specs.Entry.{EnteredBy}
 use Rattle.engine.specs.Evaluation.{Ready, ReadyOf, Line, LineOf, evaluated, evaluates, setting_of}

@@ -9,7 +9,7 @@ use Rattle.reading.specs.Reading.{Setting}
 use Rattle.reading.specs.Pest as Pest
 use Rattle.reading.specs.Pest.{ParserState}
 use Rattle.engine.specs.declared.parser_state.ParserState as Code
-use Rattle.engine.specs.declared.parser_state.Setting as Given
+use Rattle.engine.specs.declared.setting.Setting as Given
 use Rattle.engine.specs.Areas.{scratch_size, view}
 use Rattle.engine.specs.StackReady.{most_checkpoints}
 use Rattle.reading.specs.Fit.{Fit}
@@ -45,10 +45,6 @@ opens_call k = within 8 14 k || (eqb k 18 || eqb k 20)
 -- ── Of the code's setting and state ──
 abbrev pub ReadyOf : Given.Setting → (tokens scratch : List ℕ) → (depth : ℕ) → Code.ParserState → Type 0
 ReadyOf g tokens scratch depth s = Ready g.nodes.now g.literals.now g.text.now tokens scratch g.room depth (view tokens scratch s)
-
--- The grammar's tests have passed.
-abbrev pub Accepted : Given.Setting → Type 0
-Accepted g = (misfit g.nodes.now g.literals.now ≡ None) × (still_repeat g.nodes.now ≡ None)
 
 -- A line of this kind.
 abbrev pub LineOf : Given.Setting → (kind line : ℕ) → Type 0

@@ -8,7 +8,7 @@ use Rattle.reading.specs.Pest.{ParserState}
 use Rattle.matching.specs.declared.position.BytePosition.{BytePosition}
 use Rattle.engine.specs.declared.leaves.Halt.{Halt}
 use Rattle.engine.specs.declared.leaves.Halt.TheVariants.{Done, At}
-use Rattle.engine.specs.declared.parser_state.Setting as Given
+use Rattle.engine.specs.declared.setting.Setting as Given
 use Rattle.engine.specs.Evaluation.{setting_of, Line, evaluated}
 
 -- From the line `at` and the position p, the evaluation comes to what it comes to from the line `line` and the state m.

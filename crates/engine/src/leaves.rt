@@ -3,12 +3,12 @@
 ghost use Rattle.std.specs.Prelude.{◌≡◌, true, false, ℕ, ◌≤◌};
 ghost use Rattle.reading.specs.Grammar.{kind_at};
 ghost use Rattle.reading.specs.Pest as Pest;
-ghost use Rattle.engine.specs.Evaluation.{Accepted, Line, evaluates};
+ghost use Rattle.engine.specs.Evaluation.{Line, evaluates};
 ghost use Rattle.engine.specs.Leaves.{FitIn, WalkedFrom};
 ghost use Rattle.engine.specs.StackMatch.{match_of};
 
 use crate::node::line_at;
-use crate::parser_state::Setting;
+use crate::setting::Setting;
 use crate::spine::is_fork;
 use crate::terminals::{match_end, match_literal};
 use matching::position::{BytePosition, match_range, skip};
@@ -22,8 +22,7 @@ pub(crate) enum Halt {
 
 // A line of kind 1 to 5.
 pub(crate) fn leaf(g: &Setting, line: usize, p: BytePosition) -> Option<BytePosition>
-    requires accepted { Accepted g.now }
-    requires line { Line g.now.nodes.now line × (kind_at g.now.nodes.now line ≤ 5) }
+    requires { Line g.now.nodes.now line × (kind_at g.now.nodes.now line ≤ 5) }
     ensures { (depth : ℕ) (m : Pest.ParserState) → FitIn g.now m → m.position ≡ p.0 → Pest.moved (match_of result) m ≡ evaluates g.now depth line m }
 {
     let n = line_at(g.nodes, line);
@@ -38,8 +37,7 @@ pub(crate) fn leaf(g: &Setting, line: usize, p: BytePosition) -> Option<BytePosi
 
 // A line that is no fork: a leaf is done.
 fn last(g: &Setting, line: usize, p: BytePosition) -> (BytePosition, Halt)
-    requires accepted { Accepted g.now }
-    requires line { Line g.now.nodes.now line }
+    requires { Line g.now.nodes.now line }
     ensures { (depth : ℕ) (m : Pest.ParserState) → FitIn g.now m → m.position ≡ p.0 → WalkedFrom g.now depth line m result }
 {
     let n = line_at(g.nodes, line);
@@ -54,8 +52,7 @@ fn last(g: &Setting, line: usize, p: BytePosition) -> (BytePosition, Halt)
 
 // From `line`, as far as left sides are leaves: by right sides where they are due. The position then, and why the walk ends.
 pub(crate) fn walk(g: &Setting, line: usize, p: BytePosition) -> (BytePosition, Halt)
-    requires accepted { Accepted g.now }
-    requires line { Line g.now.nodes.now line }
+    requires { Line g.now.nodes.now line }
     ensures { (depth : ℕ) (m : Pest.ParserState) → FitIn g.now m → m.position ≡ p.0 → WalkedFrom g.now depth line m result }
 {
     let mut at = line;

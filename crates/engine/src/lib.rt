@@ -11,6 +11,7 @@ mod node;
 mod parser_state;
 mod queueable_token;
 mod rule;
+mod setting;
 mod spine;
 mod stack;
 mod stack_match;

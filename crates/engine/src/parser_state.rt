@@ -16,6 +16,7 @@ use crate::entry::enter;
 use crate::leaves::{Halt, leaf, walk};
 use crate::node::{ends_at, line_at};
 use crate::rule::{Begun, start_rule, tag_node};
+use crate::setting::Setting;
 use crate::spine::{descend, ended, goes_right, spine_at};
 use crate::stack::Stack;
 use crate::stack_state::{checkpoint, moved, stack_match_peek_slice, stack_match_pop, stack_pop};
@@ -23,15 +24,6 @@ use checks::call_limit_tracker::CallLimitTracker;
 use checks::packed::{packed, unpacked};
 use matching::position::{BytePosition, TokenIndex};
 use reading::parser_state::{Atomicity, Ending, Lookahead};
-
-// What stays the same through a run: the grammar, the text, and how many tokens the area has room for.
-#[derive(Clone, Copy)]
-pub(crate) struct Setting<'i> {
-    pub nodes: &'i [i32],
-    pub literals: &'i [u8],
-    pub text: &'i [u8],
-    pub room: usize,
-}
 
 // pest's `ParserState`. Like pest's Box it stays in one place through a run, so that no function copies it.
 // Kept: counts, and no Vecs: "Vec becomes lent areas", and the elements stand there.

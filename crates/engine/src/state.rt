@@ -7,7 +7,8 @@ ghost use Rattle.engine.specs.Conclude.{outcome_of, refused_with};
 ghost use Rattle.reading.specs.Run.{input, Ran};
 
 use crate::conclude::conclude;
-use crate::parser_state::{ParserState, Setting, packed_node};
+use crate::parser_state::{ParserState, packed_node};
+use crate::setting::Setting;
 use checks::grammar::{Refused, refusal};
 use checks::packed::unpacked;
 

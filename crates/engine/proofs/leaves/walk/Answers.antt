@@ -19,19 +19,19 @@ returns-then-not-is_fork c = λ d m f x.
 
 pub line_at-m-requires : goal.line_at-m-requires
 line_at-m-requires c =
-    let a = accepted _ _ c.requires.accepted.0 c.requires.accepted.1 in
+    let a = accepted _ _ c.args.g.now.accepted.0 c.args.g.now.accepted.1 in
     let f = c.is_fork.ensures.0 (not-false _ (ap not c.if-not-is_fork.false)) in
     whole _ _ a _ (left_line _ _ a _ c.loop-n.invariant.0 _ c.line_at-n.ensures f)
 
-pub leaf-requires-clause-line : goal.leaf-requires-clause-line
-leaf-requires-clause-line c =
-    let a = accepted _ _ c.requires.accepted.0 c.requires.accepted.1 in
+pub leaf-requires : goal.leaf-requires
+leaf-requires c =
+    let a = accepted _ _ c.args.g.now.accepted.0 c.args.g.now.accepted.1 in
     let f = c.is_fork.ensures.0 (not-false _ (ap not c.if-not-is_fork.false)) in
     (left_line _ _ a _ c.loop-n.invariant.0 _ c.line_at-n.ensures f, kind_low _ _ _ c.line_at-m.ensures (omega (arith, c.if-m-gt5.false)))
 
 pub returns-then-n-eq7 : goal.returns-then-n-eq7
 returns-then-n-eq7 c =
-    let a = accepted _ _ c.requires.accepted.0 c.requires.accepted.1 in
+    let a = accepted _ _ c.args.g.now.accepted.0 c.args.g.now.accepted.1 in
     let f = c.is_fork.ensures.0 (not-false _ (ap not c.if-not-is_fork.false)) in
     λ d m fit x.
     let o = c.loop-n.invariant.1 d m fit x in
@@ -40,7 +40,7 @@ returns-then-n-eq7 c =
 
 pub returns-then-n-eq6 : goal.returns-then-n-eq6
 returns-then-n-eq6 c =
-    let a = accepted _ _ c.requires.accepted.0 c.requires.accepted.1 in
+    let a = accepted _ _ c.args.g.now.accepted.0 c.args.g.now.accepted.1 in
     let f = c.is_fork.ensures.0 (not-false _ (ap not c.if-not-is_fork.false)) in
     λ d m fit x.
     let o = c.loop-n.invariant.1 d m fit x in
@@ -49,13 +49,13 @@ returns-then-n-eq6 c =
 
 pub loop-n-smaller-else-n-eq7 : goal.loop-n-smaller-else-n-eq7
 loop-n-smaller-else-n-eq7 c =
-    let a = accepted _ _ c.requires.accepted.0 c.requires.accepted.1 in
+    let a = accepted _ _ c.args.g.now.accepted.0 c.args.g.now.accepted.1 in
     let f = c.is_fork.ensures.0 (not-false _ (ap not c.if-not-is_fork.false)) in
     (right_in _ _ a _ c.loop-n.invariant.0 _ c.line_at-n.ensures f).1
 
 pub loop-n-preserved-else-n-eq7 : goal.loop-n-preserved-else-n-eq7
 loop-n-preserved-else-n-eq7 c =
-    let a = accepted _ _ c.requires.accepted.0 c.requires.accepted.1 in
+    let a = accepted _ _ c.args.g.now.accepted.0 c.args.g.now.accepted.1 in
     let f = c.is_fork.ensures.0 (not-false _ (ap not c.if-not-is_fork.false)) in (
       right_line _ _ a _ c.loop-n.invariant.0 _ c.line_at-n.ensures f,
       λ d m fit x.
@@ -66,13 +66,13 @@ loop-n-preserved-else-n-eq7 c =
 
 pub loop-n-smaller : goal.loop-n-smaller
 loop-n-smaller c =
-    let a = accepted _ _ c.requires.accepted.0 c.requires.accepted.1 in
+    let a = accepted _ _ c.args.g.now.accepted.0 c.args.g.now.accepted.1 in
     let f = c.is_fork.ensures.0 (not-false _ (ap not c.if-not-is_fork.false)) in
     (right_in _ _ a _ c.loop-n.invariant.0 _ c.line_at-n.ensures f).1
 
 pub loop-n-preserved : goal.loop-n-preserved
 loop-n-preserved c =
-    let a = accepted _ _ c.requires.accepted.0 c.requires.accepted.1 in
+    let a = accepted _ _ c.args.g.now.accepted.0 c.args.g.now.accepted.1 in
     let f = c.is_fork.ensures.0 (not-false _ (ap not c.if-not-is_fork.false)) in (
       right_line _ _ a _ c.loop-n.invariant.0 _ c.line_at-n.ensures f,
       λ d m fit x.

@@ -22,8 +22,8 @@ overflow_cast-n c =
 pub tag_node-requires : goal.tag_node-requires
 tag_node-requires c = omega (arith, place_of _ _ _ _ c.args.s.now c.requires.ready, c.requires.ready.area)
 
-pub leaf-requires-clause-line : goal.leaf-requires-clause-line
-leaf-requires-clause-line c =
+pub leaf-requires : goal.leaf-requires
+leaf-requires c =
     let w = tests _ _ _ _ c.requires.ready in
     (c.requires.line.0, leaf_of _ _ w _ c.requires.line.0 _ c.line_at-n.ensures c.requires.line.1 c.requires.line.2 c.in_default.in_default-own.rest)
 

@@ -4,6 +4,11 @@ use Rattle.engine.proofs.Steps.{told}
 use Rattle.engine.proofs.RunLaws.{ready, at_last, ran_is, concludable, run_is}
 use Rattle.engine.proofs.state.started.Goals as goal
 
+pub invariant_of-setting : goal.invariant_of-setting
+invariant_of-setting c =
+    let r = ready _ c.requires _ refl _ c.capacity_of-room.ensures _ (c.new-state.ensures _ _) in
+    record { accepted = (r.fitting, r.moving) }
+
 pub packed_node-r-requires-clause-ready : goal.packed_node-r-requires-clause-ready
 packed_node-r-requires-clause-ready c = ready _ c.requires _ refl _ c.capacity_of-room.ensures _ (c.new-state.ensures _ _)
 
