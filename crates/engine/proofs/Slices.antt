@@ -71,14 +71,6 @@ module _ (a : List ℕ) where
   left start end k true h = slice start (end - (k - start)) true (pairs span a 0 h)
   left start end k false h = slice k end false (pairs span a 0 h)
 
-  pub left_first : (start end : ℕ) (down : Bool) (h : ℕ) → left start end start down h ≡ slice start end down (pairs span a 0 h)
-  left_first start end true h = let e : end - (start - start) ≡ end = omega arith in ap (λ (n : ℕ). slice start n true (pairs span a 0 h)) e
-  left_first start end false h = refl
-
-  pub left_last : (start end k : ℕ) (down : Bool) (h : ℕ) → start ≤ k → end ≤ k → left start end k down h ≡ []
-  left_last start end k true h m l = slice_none start (end - (k - start)) h true (omega arith)
-  left_last start end k false h m l = slice_none k end h false l
-
   pub left_next : (start end k : ℕ) (down : Bool) (h : ℕ) → start ≤ k → k < end → end ≤ h
       → left start end k down h ≡ entry_at a (index_at start end k down) ∷ left start end (k + 1) down h
   left_next start end k true h m l g =

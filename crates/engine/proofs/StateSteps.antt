@@ -194,10 +194,6 @@ normal_inside (negsuc k) len n e = go (ltb len (suc k)) e
     go true e = let z : ◌≡◌ {A = ℕ} 0 1 = cc in absurd (omega arith)
     go false e = let g : len - suc k ≡ n = cc in omega arith
 
-end_inside : (j : Option ℤ) (len n : ℕ) → normalize_end j len ≡ Some n → n ≤ len
-end_inside None len n e = let g : len ≡ n = cc in omega arith
-end_inside (Some i) len n e = normal_inside i len n e
-
 module _ (text : List ℕ) (i : ℤ) (j : Option ℤ) (d : Bool) (m : Pest.ParserState) (h : ℕ) (eh : length m.stack.cache ≡ h) where
   abbrev sliced : Option ℕ → Option ℕ → Ending Pest.ParserState
   sliced o q =
