@@ -7,13 +7,13 @@ use mathlib.Core.List.{List, [], ◌∷◌}
 use Rattle.std.specs.Prelude.{Option, None, Some, Result}
 use Prim.Native.Nat.{ℕ, suc, ◌+◌, ◌-◌, ◌≤◌, ◌<◌}
 use native.Mathlib.Omega.{arith}
-use lib.ListN.{length, get_or, drop, length-drop}
+use lib.ListN.{length, get_or, drop}
 use lib.Seq.{get_or-drop}
 use lib.Dec.{eqb, ltb, leb}
-use borrow.Author.Tests.{ltb-false, leb-true, leb-false, not-true, not-false, le-ltb, eq-eqb, ne_eqb, le-leb}
+use borrow.Author.Tests.{ltb-false, leb-true, not-false, le-ltb, ne_eqb, le-leb}
 use Rattle.matching.specs.declared.span.Span as Code
 use Rattle.matching.specs.Position.{starts_by, match_by, match_string, bytes_of}
-use Rattle.matching.proofs.Starts.{starts_short, From, from_start, from_more, from_fails, from_end}
+use Rattle.matching.proofs.Starts.{From, from_fails, from_end}
 use Rattle.reading.specs.Pest as Pest
 use Rattle.engine.specs.declared.stack.Stack.{Stack}
 use Rattle.engine.specs.declared.stack.Unpopped.{Unpopped}
@@ -26,7 +26,7 @@ use Rattle.engine.specs.Bounded.{Take, got, taken, taken_from, take_of}
 use Rattle.reading.specs.Sound.{Sound}
 use Rattle.engine.specs.StackReady.{StackReady, OutsideStack}
 use Rattle.reading.proofs.StackLaws.{pest}
-use Rattle.engine.proofs.Regions.{pairs_length, stack_refl, stack_trans}
+use Rattle.engine.proofs.Regions.{pairs_length, stack_trans}
 use Rattle.reading.proofs.SoundLaws.{sound_pop, lengths_pop}
 use Rattle.engine.proofs.ReadyLaws.{ready_after}
 use Rattle.engine.proofs.Matching.{match_string_same}
@@ -127,24 +127,10 @@ module _ (text : List ℕ) (v : Pest.Stack) (line p : ℕ) (m : ParserState) whe
 -- A loop over `bytes`, at the position p of the text.
 module _ (text bytes : List ℕ) (p : ℕ) where
   module _ (room : Bool) (e : room ≡ leb (p + length bytes) (length text)) where
-    pub bytes_short : not room ≡ true → match_string text bytes p ≡ None
-    unfolding match_by
-    bytes_short h = go (leb p (length text)) refl
-      where
-        go : (b : Bool) → leb p (length text) ≡ b → match_string text bytes p ≡ None
-        go false l = rw l
-        go true l = rw (l, starts_short eqb bytes (drop p text) (omega (arith, length-drop p text, leb-true p (length text) l, leb-false (p + length bytes) (length text) (sym e ∙ not-true room h))))
-
     pub bytes_fit : not room ≡ false → p + length bytes ≤ length text
     bytes_fit h = leb-true (p + length bytes) (length text) (sym e ∙ not-false room h)
 
-  pub bytes_start : p + length bytes ≤ length text → From eqb bytes (drop p text) 0
-  bytes_start l = from_start eqb bytes (drop p text) (omega (arith, l, length-drop p text))
-
   module _ (i : ℕ) (f : From eqb bytes (drop p text) i) where
-    pub bytes_more : i < length bytes → get_or text (p + i) 0 ≡ get_or bytes i 0 → From eqb bytes (drop p text) (i + 1)
-    bytes_more h e = from_more eqb bytes (drop p text) i f h (eq-eqb _ _ (sym e ∙ sym (get_or-drop p text i 0)))
-
     pub bytes_differ : p + length bytes ≤ length text → i < length bytes → (get_or text (p + i) 0 ≡ get_or bytes i 0 → ⊥) → match_string text bytes p ≡ None
     unfolding match_by
     bytes_differ l h n =
@@ -157,10 +143,6 @@ module _ (text bytes : List ℕ) (p : ℕ) where
         let t : true ≡ starts_by eqb bytes (drop p text) = from_end eqb bytes (drop p text) i f h in
         rw (le-leb p (length text) (omega (arith, l)), ← t)
 
-    -- What stands at p + i is in the text.
-    pub bytes_inside : i < length bytes → p + i < length text
-    bytes_inside h = omega (arith, length-drop p text, f.room)
-
 -- ── The loop over the entries ──
 -- From scratch a, the stack s and the position p on, pest's answer is the one from the start on.
 pub record Going (text a₀ : List ℕ) (s₀ : Stack) (p₀ : ℕ) (a : List ℕ) (s : Stack) (p : ℕ) : Type 0 where
@@ -168,9 +150,6 @@ pub record Going (text a₀ : List ℕ) (s₀ : Stack) (p₀ : ℕ) (a : List �
   pub frame : OutsideStack a₀ a
   pub rest : (line : ℕ) (m : ParserState)
       → stack_match_pop text true line (stack_of a s).cache p (set_stack (stack_of a s) m) ≡ stack_match_pop text true line (stack_of a₀ s₀).cache p₀ (set_stack (stack_of a₀ s₀) m)
-
-pub going_start : (text a : List ℕ) (s : Stack) (p : ℕ) → StackReady a s → Going text a s p a s p
-going_start text a s p r = record { ready = r; frame = stack_refl a; rest = λ line m. refl }
 
 module _ {text a₀ : List ℕ} {s₀ : Stack} {p₀ : ℕ} {a : List ℕ} {s : Stack} {p : ℕ} (g : Going text a₀ s₀ p₀ a s p) where
   -- No entry is left: all matched.

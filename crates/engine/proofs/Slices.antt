@@ -71,14 +71,6 @@ module _ (a : List ℕ) where
   left start end k true h = slice start (end - (k - start)) true (pairs span a 0 h)
   left start end k false h = slice k end false (pairs span a 0 h)
 
-  pub left_first : (start end : ℕ) (down : Bool) (h : ℕ) → left start end start down h ≡ slice start end down (pairs span a 0 h)
-  left_first start end true h = let e : end - (start - start) ≡ end = omega arith in ap (λ (n : ℕ). slice start n true (pairs span a 0 h)) e
-  left_first start end false h = refl
-
-  pub left_last : (start end k : ℕ) (down : Bool) (h : ℕ) → start ≤ k → end ≤ k → left start end k down h ≡ []
-  left_last start end k true h m l = slice_none start (end - (k - start)) h true (omega arith)
-  left_last start end k false h m l = slice_none k end h false l
-
   pub left_next : (start end k : ℕ) (down : Bool) (h : ℕ) → start ≤ k → k < end → end ≤ h
       → left start end k down h ≡ entry_at a (index_at start end k down) ∷ left start end (k + 1) down h
   left_next start end k true h m l g =
@@ -123,9 +115,6 @@ module _ (text a : List ℕ) (down : Bool) (start end : ℕ) (pos : BytePosition
   pub record Left (k : ℕ) (at : BytePosition) : Type 0 where
     pub rest : (h : ℕ) → end ≤ h → all_match text (left a start end k down h) at.0 ≡ all_match text (slice start end down (pairs span a 0 h)) pos.0
 
-  pub left_start : Left start pos
-  left_start = record { rest = λ h l. ap (λ (xs : List Span). all_match text xs pos.0) (left_first a start end down h) }
-
   module _ (k : ℕ) (at : BytePosition) (w : Left k at) (m : start ≤ k) where
     module _ (l : k < end) (i : ℕ) (ei : i ≡ index_at start end k down) (bytes : List ℕ) (eb : bytes ≡ as_str text (entry_at a i)) (r : Option BytePosition) (er : r ≡ matched (match_string text bytes at.0)) where
       next : (h : ℕ) → end ≤ h → left a start end k down h ≡ entry_at a i ∷ left a start end (k + 1) down h
@@ -146,8 +135,3 @@ module _ (text a : List ℕ) (down : Bool) (start end : ℕ) (pos : BytePosition
           ap (λ (xs : List Span). all_match text xs at.0) (next h g)
           ∙ all_none text (entry_at a i) (left a start end (k + 1) down h) at.0 (entry_failed text (entry_at a i) bytes eb at.0 r er e) in
           ap matched (sym t ∙ w.rest h g)
-
-    pub left_done : (h : ℕ) → end ≤ h → end ≤ k → Some at ≡ matched (all_match text (slice start end down (pairs span a 0 h)) pos.0)
-    left_done h g l =
-        let t : all_match text (left a start end k down h) at.0 ≡ Some at.0 = ap (λ (xs : List Span). all_match text xs at.0) (left_last a start end k down h m l) in
-        ap matched (sym t ∙ w.rest h g)

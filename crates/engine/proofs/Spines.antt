@@ -10,7 +10,7 @@ use lib.ListN.{length}
 use Rattle.engine.specs.declared.node.Line.{Line}
 use Rattle.reading.specs.Grammar.{node_at, kind_at}
 use Rattle.engine.specs.Lines.{line_of}
-use Rattle.engine.specs.Spine.{left_of, Fork, spine_line, Forks, Slopes, Spined}
+use Rattle.engine.specs.Spine.{left_of, Fork, spine_line, Forks, Slopes}
 
 module _ (ns : List ℤ) (top : ℕ) where
   pub spine_first : top ≡ spine_line ns top 0
@@ -85,6 +85,3 @@ module _ (ns : List ℤ) (top : ℕ) where
             place = ap (λ (m : Line). m.a) e ∙ ap (left_of ns) w.place ∙ sym (spine_next ns top count);
             forks = forks_more ns top count w.forks (subst (λ (x : ℕ). Fork (kind_at ns x)) w.place (subst Fork kind_here k));
           }
-
-      pub last_slide : (Fork n.kind → ⊥) → Spined ns top (record { count = count; line = line })
-      last_slide f = record { forks = w.forks; place = w.place; last = λ k. f (subst Fork (sym kind_here) k) }

@@ -29,7 +29,7 @@ use Rattle.reading.specs.Pest.{set_position, set_stack, push, pop, as_str, moved
 use Rattle.engine.specs.Areas.{span, stack_of, view, view_end}
 use Rattle.engine.specs.Bounded.{Take, got, pushed, taken, taken_from, take_of}
 use Rattle.reading.specs.Sound.{Sound}
-use Rattle.engine.specs.StackReady.{StackReady, StateReady, OutsideStack}
+use Rattle.engine.specs.StackReady.{StateReady, OutsideStack}
 use Rattle.engine.specs.StackMatch.{match_of, match_end}
 use Rattle.reading.specs.Reading.{index_in, end_in}
 use Rattle.checks.proofs.IndexLaws.{pest_index, pest_end}
@@ -67,22 +67,12 @@ module _ {a b : List ℕ} {s t : ParserState} (r : StateReady a s) (o : OutsideS
       ap (view tokens b) et
       ∙ (λ i. with_parts (view tokens a s) (positives_kept a b o s.attempts.positives r.positives i) (negatives_kept a b o s.attempts.negatives r.negatives i) (e i))
 
--- v is the stack that the code read.
-pub stack_read : {a : List ℕ} {s : ParserState} {v : Stack} → v ≡ s.stack → StateReady a s → StackReady a v
-stack_read e r = rw e r.stack
-
 -- checkpoint, checkpoint_ok, restored
 pub stack_changed : (f : Pest.Stack → Pest.Stack) {a b : List ℕ} {s t : ParserState} {v : Stack} (w : Stack) → StateReady a s → v ≡ s.stack → (stack_of b w ≡ f (stack_of a v)) × OutsideStack a b
     → t ≡ Fields.set_stack w s → ((tokens : List ℕ) → view tokens b t ≡ set_stack (f (stack_of a s.stack)) (view tokens a s)) × OutsideStack a b
 stack_changed f {a} {b} {s} w r ev e et = (view_stack r e.1 w (f (stack_of a s.stack)) (e.0 ∙ ap (λ (u : Stack). f (stack_of a u)) ev) et, e.1)
 
 -- ── moved ──
-pub moved_at : (m : Option BytePosition) (p : BytePosition) (s t : ParserState) → m ≡ Some p → t ≡ Fields.set_position p s → (tokens scratch : List ℕ) → Ok (view tokens scratch t) ≡ moved (match_of m) (view tokens scratch s)
-moved_at m p s t e et tokens scratch = rw (e, et)
-
-pub moved_not : (m : Option BytePosition) (s : ParserState) → m ≡ None → (tokens scratch : List ℕ) → Err (view tokens scratch s) ≡ moved (match_of m) (view tokens scratch s)
-moved_not m s e tokens scratch = rw e
-
 matched_back : (o : Option ℕ) → match_of (matched o) ≡ o
 matched_back None = refl
 matched_back (Some p) = refl
@@ -204,10 +194,6 @@ normal_inside (negsuc k) len n e = go (ltb len (suc k)) e
     go true e = let z : ◌≡◌ {A = ℕ} 0 1 = cc in absurd (omega arith)
     go false e = let g : len - suc k ≡ n = cc in omega arith
 
-end_inside : (j : Option ℤ) (len n : ℕ) → normalize_end j len ≡ Some n → n ≤ len
-end_inside None len n e = let g : len ≡ n = cc in omega arith
-end_inside (Some i) len n e = normal_inside i len n e
-
 module _ (text : List ℕ) (i : ℤ) (j : Option ℤ) (d : Bool) (m : Pest.ParserState) (h : ℕ) (eh : length m.stack.cache ≡ h) where
   abbrev sliced : Option ℕ → Option ℕ → Ending Pest.ParserState
   sliced o q =
@@ -271,9 +257,6 @@ module _ (text a : List ℕ) (i b : ℤ) (c : ℕ) (s : ParserState) (v : Stack)
     module _ {end : ℕ} (g : r₂ ≡ Some end) where
       end_is : normalize_end (end_of c b) v.height ≡ Some end
       end_is = index_at (normalize_end (end_of c b) v.height) r₂ end (pest_end (end_of c b) v.height er₂) g
-
-      pub end_below : end ≤ v.height
-      end_below = end_inside (end_of c b) v.height end end_is
 
       pub slice_empty : end ≤ start → (tokens : List ℕ) → Ok (view tokens a s) ≡ stack_match_peek_slice text i (end_of c b) down (view tokens a s)
       slice_empty l tokens = peek_nothing text i (end_of c b) down (view tokens a s) v.height (tall tokens) start start_is end end_is l

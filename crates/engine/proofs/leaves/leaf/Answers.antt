@@ -49,5 +49,5 @@ pub returns-in_default : goal.returns-in_default
 returns-in_default c = λ d m f x.
     let w = accepted _ _ c.args.g.now.accepted.0 c.args.g.now.accepted.1 in
     leaf_5 _ _ _ _ _ w _ c.requires.0 _ c.line_at-n.ensures m _ x
-    (fifth _ _ c.args.g.now.text.now c.args.g.now.room d w _ c.requires.0 _ c.line_at-n.ensures c.requires.1 c.in_default.in_default-own.rest)
+    (fifth _ _ c.args.g.now.text.now c.args.g.now.room d w _ c.requires.0 _ c.line_at-n.ensures c.requires.1 (search rules))
     c.match_end.result c.match_end.ensures

@@ -3,6 +3,7 @@ use native.Mathlib.Omega.{arith}
 use Rattle.checks.proofs.FieldLaws.{back}
 use Rattle.engine.proofs.Steps.{state_of, place_of, tests}
 use Rattle.engine.proofs.TerminalSteps.{tag_low, leaf_of, end_15, end_16, end_17, end_19}
+use borrow.Author.Rules.{rules}
 use Rattle.engine.proofs.parser_state.terminal.Goals as goal
 
 pub stack_pop-requires : goal.stack_pop-requires
@@ -25,7 +26,7 @@ tag_node-requires c = omega (arith, place_of _ _ _ _ c.args.s.now c.requires.rea
 pub leaf-requires : goal.leaf-requires
 leaf-requires c =
     let w = tests _ _ _ _ c.requires.ready in
-    (c.requires.line.0, leaf_of _ _ w _ c.requires.line.0 _ c.line_at-n.ensures c.requires.line.1 c.requires.line.2 c.in_default.in_default-own.rest)
+    (c.requires.line.0, leaf_of _ _ w _ c.requires.line.0 _ c.line_at-n.ensures c.requires.line.1 c.requires.line.2 (search rules))
 
 pub returns-in-15 : goal.returns-in-15
 returns-in-15 c =
