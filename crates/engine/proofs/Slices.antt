@@ -62,10 +62,6 @@ module _ (a : List ℕ) where
         ∙ ap (λ (x : Span). take (high - 1 - low) q ++ (x ∷ [])) (get_or-drop low (up h) (high - 1 - low) d ∙ ap (λ (n : ℕ). get_or (up h) n d) k ∙ up_at h (high - 1) d (omega arith)) in
         ap (λ (x : List Span). reverse x) more ∙ reverse-append (take (high - 1 - low) q) (entry_at a (high - 1) ∷ [])
 
-  slice_none : (low high h : ℕ) (down : Bool) → high ≤ low → slice low high down (pairs span a 0 h) ≡ []
-  slice_none low high h true l = let z : high - low ≡ 0 = omega arith in rw z
-  slice_none low high h false l = let z : high - low ≡ 0 = omega arith in rw z
-
   -- What is left of a slice at turn k.
   abbrev pub left : (start end k : ℕ) → (down : Bool) → (h : ℕ) → List Span
   left start end k true h = slice start (end - (k - start)) true (pairs span a 0 h)

@@ -3,15 +3,15 @@
 use Rattle.std.specs.Prelude.{if◌then◌else◌}
 use Rattle.std.specs.Prelude.{option_map, Result}
 use mathlib.Core.Path.{◌≡◌, refl, sym, ap, ap₂, ◌∙◌}
-use mathlib.Core.Bool.{Bool, true, false, cond, ◌||◌}
+use mathlib.Core.Bool.{Bool, true, false, ◌||◌}
 use mathlib.Core.List.{List, [], ◌∷◌}
 use Rattle.std.specs.Prelude.{Option, None, Some}
-use Prim.Native.Nat.{ℕ, suc, ◌-◌, ◌≤◌, ◌<◌}
+use Prim.Native.Nat.{ℕ, ◌≤◌, ◌<◌}
 use native.Mathlib.Omega.{arith}
-use lib.IntN.{ℤ, pos, negsuc}
+use lib.IntN.{ℤ}
 use lib.ListN.{length}
 use lib.Dec.{ltb, leb, eqb}
-use borrow.Author.Tests.{le-leb, lt-leb, ltb-false, le-ltb}
+use borrow.Author.Tests.{le-leb, lt-leb, le-ltb}
 use Rattle.matching.specs.declared.span.Span as Code
 use Rattle.matching.specs.Answers.{matched}
 use Rattle.matching.specs.Position.{match_string, bytes_of}
@@ -180,19 +180,6 @@ index_at o r n e f = sym e ∙ f
 
 index_out : (o r : Option ℕ) → r ≡ o → r ≡ None → o ≡ None
 index_out o r e f = sym e ∙ f
-
--- A normalised index is at most the height.
-normal_inside : (i : ℤ) (len n : ℕ) → normalize_index i len ≡ Some n → n ≤ len
-normal_inside (pos k) len n e = go (ltb len k) refl e
-  where
-    go : (b : Bool) → ltb len k ≡ b → (if b then None else Some k) ≡ Some n → n ≤ len
-    go true t e = let z : ◌≡◌ {A = ℕ} 0 1 = cc in absurd (omega arith)
-    go false t e = let g : k ≡ n = cc in omega (arith, ltb-false len k t)
-normal_inside (negsuc k) len n e = go (ltb len (suc k)) e
-  where
-    go : (b : Bool) → Pest.in_range (cond b (negsuc (suc k - suc len)) (pos (len - suc k))) ≡ Some n → n ≤ len
-    go true e = let z : ◌≡◌ {A = ℕ} 0 1 = cc in absurd (omega arith)
-    go false e = let g : len - suc k ≡ n = cc in omega arith
 
 module _ (text : List ℕ) (i : ℤ) (j : Option ℤ) (d : Bool) (m : Pest.ParserState) (h : ℕ) (eh : length m.stack.cache ≡ h) where
   abbrev sliced : Option ℕ → Option ℕ → Ending Pest.ParserState
