@@ -22,6 +22,7 @@ pub(crate) struct Node {
 }
 
 // A line, numbered from 1.
+// Kept: the bound, here and in `line_fits`: a reader that is total would have to say what a line past the end is.
 pub(crate) fn node_at(nodes: &[i32], line: usize) -> Node
     requires { (1 ≤ line) × (line * 4 ≤ length nodes.now) }
     ensures { node_of result ≡ node_at nodes.now line }

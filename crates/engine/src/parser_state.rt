@@ -129,7 +129,8 @@ fn terminal(
 // ── The evaluation: the combinators and `node` call one another. Each call of `node` has less depth left, or a lower line. `s` is the
 // state, `depth` how many more calls may be open. ──
 // Kept: `tokens`, `scratch` and `s` stand beside each other. A struct that holds a lent `&mut` area would ask of each function that is
-// handed it a clause that the area is still the same one.
+// handed it a clause that the area is still the same one. So `ReadyOf` and `Line`, which tie these and the depth together, stand in each
+// contract.
 
 // The line. `packed_node` is the one call that the compiler leaves in the cycle, and its number becomes the ending here, at each caller.
 #[cycle(evaluation)]

@@ -26,6 +26,9 @@ pub enum Unpopped {
     Full,
 }
 
+// Kept: `StackReady` stands in each contract here (and `StateReady` in stack_state.rt). It ties the counts to the area that they count in,
+// which is lent on its own, so that no invariant of the counts could say it.
+
 // None: the stack is full.
 pub(crate) fn push(scratch: &mut [u32], s: Stack, start: u32, end: u32) -> Option<Stack>
     requires { StackReady scratch.old s }

@@ -29,6 +29,7 @@ fn index_at(start: usize, end: usize, k: usize, down: bool) -> usize
 }
 
 // Matches the entries from `start` to before `end`, in either direction: all, or it fails.
+// Kept: a slice's two ends and its direction as pest's own parameters.
 pub(crate) fn match_slice(
     text: &[u8],
     scratch: &[u32],

@@ -24,6 +24,7 @@ fn digit(b: u8) -> Option<u64>
 }
 
 // Digits alone. Twelve columns hold no more than 64 bits do.
+// Kept: that bound, here, in `natural` and in `signed`: checked sums would give a second answer to what the definition answers as a number.
 fn decimal(s: &[u8]) -> Option<u64>
     requires { length s.now ≤ 12 }
     ensures { result ≡ decimal 0 s.now }

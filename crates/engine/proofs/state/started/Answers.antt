@@ -6,7 +6,7 @@ use Rattle.engine.proofs.state.started.Goals as goal
 
 pub invariant_of-setting : goal.invariant_of-setting
 invariant_of-setting c =
-    let r = ready _ c.requires _ refl _ c.capacity_of-room.ensures _ (c.new-state.ensures _ _) in
+    let r = ready _ c.requires c.args.scratch.now refl _ c.capacity_of-room.ensures _ (c.new-state.ensures c.args.tokens.now c.args.scratch.now) in
     record { accepted = (r.fitting, r.moving) }
 
 pub packed_node-r-requires-clause-ready : goal.packed_node-r-requires-clause-ready
