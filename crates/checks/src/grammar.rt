@@ -31,6 +31,7 @@ pub enum Refused {
 
 impl Refused {
     // The refusal's number.
+    // Kept: a number for each case: document 01's table, which C's interface gives.
     pub fn number(self) -> u32
         ensures { result ≡ (refusal_of self).number }
     {

@@ -13,6 +13,7 @@ pub fn natural_of(x: i32) -> usize
 }
 
 // A line's four numbers.
+// Kept: sheet has the same struct, and neither crate sees the other: a crate below both for four numbers is no plainer.
 #[derive(Clone, Copy)]
 pub(crate) struct Node {
     pub kind: i32,
@@ -22,7 +23,7 @@ pub(crate) struct Node {
 }
 
 // A line, numbered from 1.
-// Kept: the bound, here and in `line_fits`: a reader that is total would have to say what a line past the end is.
+// Kept: the bound, here and in `line_fits`: without it four `get`s, and a product that may not fit, would stand for four indices.
 pub(crate) fn node_at(nodes: &[i32], line: usize) -> Node
     requires { (1 ≤ line) × (line * 4 ≤ length nodes.now) }
     ensures { node_of result ≡ node_at nodes.now line }

@@ -93,6 +93,7 @@ pub(crate) fn still_repeat(nodes: &[i32]) -> Option<u32>
     requires { length nodes.now ≤ 16384 }
     ensures { result ≡ still_repeat nodes.now }
 {
+    // Kept: an area of 4,096 flags, of which as many are used as there are lines: no heap.
     let mut flags = [false; 4096];
     let flags = &mut flags[..nodes.len() / 4];
     flag_all(nodes, flags);

@@ -30,6 +30,7 @@ fn stopped(tokens: &mut [u32], report: &mut [u32], number: u32, place: u32) -> O
     }
 }
 
+// Kept: the numbers 11 to 16, here and in `of_cause`, as document 01's table and C's interface have them.
 // 11 and 12: "furthest"
 fn of_limit(
     tokens: &mut [u32],
@@ -60,6 +61,7 @@ fn of_cause(tokens: &mut [u32], report: &mut [u32], cause: Cause) -> Outcome
 }
 
 // "A run's 0 returns place 0, count of tokens; tokens, then zeros; report zeros."
+// Kept: the area and its count, as in queueable_token.rt.
 fn of_tokens(tokens: &mut [u32], report: &mut [u32], n: TokenIndex) -> Outcome
     requires { (n.0 * 5 ≤ length tokens.old) × (n.0 ≤ 65535) }
     ensures { outcome_of result tokens.new report.new ≡ laid (length tokens.old) (length report.old) (Answers.of_tokens (tokens_of (queue_of tokens.old n.0))) }

@@ -21,6 +21,7 @@ pub(crate) enum Halt {
 }
 
 // A line of kind 1 to 5.
+// Kept: a `match` on the kind's number, which is document 01's and C's; each arm calls a function of another shape.
 pub(crate) fn leaf(g: &Setting, line: usize, p: BytePosition) -> Option<BytePosition>
     requires { Line g.now.nodes.now line × (kind_at g.now.nodes.now line ≤ 5) }
     ensures { (depth : ℕ) (m : Pest.ParserState) → FitIn g.now m → m.position ≡ p.0 → Pest.moved (match_of result) m ≡ evaluates g.now depth line m }

@@ -22,6 +22,7 @@ pub struct Ends {
 }
 
 // The line, numbered from 1.
+// Kept: the bound, here and in `ends_at`, as at checks' `node_at`; this one reads the fields as natural numbers, which an accepted line's are.
 pub(crate) fn line_at(nodes: &[i32], line: usize) -> Line
     requires { (1 ≤ line) × (line * 4 ≤ length nodes.now) }
     ensures { result ≡ line_of (node_at nodes.now line) }

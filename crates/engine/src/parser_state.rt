@@ -98,6 +98,7 @@ fn rule_line(kind: usize, a: usize, line: usize) -> usize
 }
 
 // A line that opens no call and is no fork.
+// Kept: a `match` on the kind's number, as at `leaf`.
 fn terminal(
     g: &Setting,
     tokens: &mut [u32],

@@ -1,5 +1,6 @@
 // pest's queue of tokens in a lent area, five numbers a token. A queue is the area and how many tokens it holds, so `truncate` is
 // a smaller number; what stands behind the last token is free until the end of a run.
+// Kept: the area and a count beside it, and no Vec: document 01, "Vec becomes lent areas".
 ghost use Rattle.std.specs.Prelude.{◌≡◌, ◌+◌, ◌*◌, ◌≤◌, length, take};
 ghost use Rattle.reading.specs.Pest.{Start, End};
 ghost use Rattle.engine.specs.Areas.{queue_of};

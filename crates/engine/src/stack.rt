@@ -12,6 +12,7 @@ use matching::position::BytePosition;
 use matching::span::Span;
 
 // pest's `Stack` in the scratch area: how many entries, popped entries and open checkpoints stand in their regions.
+// Kept: counts, and no Vecs, as in parser_state.rt.
 #[derive(Clone, Copy)]
 pub struct Stack {
     pub height: usize,

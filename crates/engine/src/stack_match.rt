@@ -29,7 +29,7 @@ fn index_at(start: usize, end: usize, k: usize, down: bool) -> usize
 }
 
 // Matches the entries from `start` to before `end`, in either direction: all, or it fails.
-// Kept: a slice's two ends and its direction as pest's own parameters.
+// Kept: two ends and a direction: a struct of them would be made at the one call and taken apart here at once.
 pub(crate) fn match_slice(
     text: &[u8],
     scratch: &[u32],
@@ -45,10 +45,7 @@ pub(crate) fn match_slice(
     let mut at = pos;
     for k in start..end {
         let i = index_at(start, end, k, down);
-        let Some(q) = match_string(text, at, entry(text, scratch, i)) else {
-            return None;
-        };
-        at = q;
+        at = match_string(text, at, entry(text, scratch, i))?;
     }
     Some(at)
 }

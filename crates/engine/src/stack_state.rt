@@ -14,6 +14,7 @@ use matching::position::{BytePosition, match_string};
 use matching::span::as_bytes;
 use reading::parser_state::{Cause, Ending};
 
+// Kept: `StateReady` in each contract here: stack.rt says why.
 pub(crate) fn checkpoint(scratch: &mut [u32], s: &mut ParserState)
     requires { StateReady scratch.old s.old × (s.old.stack.checkpoints < most_checkpoints) }
     ensures state_after { (tokens : List ℕ) → view tokens scratch.new s.new ≡ checkpoint (view tokens scratch.old s.old) }

@@ -41,6 +41,7 @@ fn capacity_of(tokens: &[u32]) -> usize
 }
 
 // A run that no test refuses.
+// Kept: the parameters are those of `run`.
 fn started<'a>(
     nodes: &[i32],
     literals: &'a [u8],

@@ -30,5 +30,5 @@ pub(crate) fn match_literal<'a>(
 pub(crate) fn match_end(text: &[u8], p: BytePosition) -> Option<BytePosition>
     ensures { match_of result ≡ (if Position.at_end text.now p.0 then Some p.0 else None) }
 {
-    if end_of_input(text, p) { Some(p) } else { None }
+    end_of_input(text, p).then_some(p)
 }

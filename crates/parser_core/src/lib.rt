@@ -25,6 +25,7 @@ impl From<Outcome> for ParserCoreOutcome {
     }
 }
 
+// Kept: each input and each area on its own, and once more in parser_core_c: the C interface.
 #[unsafe(no_mangle)]
 pub extern "C" fn parser_core_run<'a>(
     nodes: &[i32],

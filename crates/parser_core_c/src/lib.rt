@@ -47,6 +47,7 @@ pub extern "C" fn parser_core_read_sheet(sheet: &[u8], nodes: &mut [i32]) -> Par
 
 // Calls the export as C does, by position: the arguments in the order of rust/parser-core/include/parser_core.h. A contract goes by names,
 // so an export whose names change places is refused here.
+// Kept: eight parameters, and once more in parser_core_test: C's order of arguments.
 fn run_by_position<'a>(
     nodes: &[i32],
     literals: &'a [u8],

@@ -11,6 +11,7 @@ use engine::state::Outcome;
 pub(crate) type Line = [u8; 41];
 
 // A line's numbers.
+// Kept: checks has the same struct, see there.
 #[derive(Clone, Copy)]
 pub(crate) struct Node {
     pub kind: i32,
