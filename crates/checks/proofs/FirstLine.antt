@@ -1,40 +1,32 @@
--- A search over lines from the first on: what the loop has still to search gives the answer of the whole search.
-use mathlib.Core.Path.{◌≡◌, ap, ◌∙◌}
+-- The first line that a test finds, as the search of a range answers it: the lines before it fail the test, and all do where there is none.
+use mathlib.Core.Path.{◌≡◌, refl}
 use mathlib.Core.Bool.{Bool, true, false}
-use mathlib.Core.Option.{none, some}
-use Prim.Native.Nat.{ℕ, zero, suc, ◌+◌, ◌-◌, ◌≤◌, ◌<◌}
+use Rattle.std.specs.Prelude.{Option, None, Some, MatchOption}
+use Prim.Native.Nat.{ℕ, zero, suc, ◌+◌, ◌≤◌, ◌<◌}
 use native.Mathlib.Omega.{arith}
-use native.Mathlib.Numerals.{add-one}
-use Rattle.checks.specs.declared.grammar.Fault.TheVariants.{No, At}
+use native.Mathlib.Decide.{dec_lt}
 use Rattle.reading.specs.Grammar.{first_line}
-use Rattle.checks.specs.FieldTests.{fault_of}
 
 module _ (test : ℕ → Bool) where
-  -- The search of lines 1 to m has come to line l.
-  pub record Come (m l : ℕ) : Type 0 where
-    pub low : 1 ≤ l
-    pub high : l ≤ m + 1
-    pub rest : first_line test l (m + 1 - l) ≡ first_line test 1 m
+  -- The lines from l on, before line i, fail the test.
+  abbrev pub Fails : (l i : ℕ) → Type 0
+  Fails l i = (k : ℕ) → l ≤ k → k < i → test k ≡ false
 
-  pub come_first : (m : ℕ) → Come m 1
-  come_first m = let e : m + 1 - 1 ≡ m = omega arith in record { low = omega arith; high = omega arith; rest = ap (first_line test 1) e }
+  none : (l n : ℕ) → Fails l (l + n) → None ≡ first_line test l n
+  none l zero h = refl
+  none l (suc n) h = rw (h l (omega arith) (omega arith)) (none (suc l) n (λ k a b. h k (omega arith) (omega arith)))
 
-  here : (l n : ℕ) → 0 < n → test l ≡ true → some l ≡ first_line test l n
-  here l zero h e = absurd (omega arith)
-  here l (suc n) h e = rw e
+  some : (l n i : ℕ) → l ≤ i → i < l + n → test i ≡ true → Fails l i → Some i ≡ first_line test l n
+  some l zero i a b e h = absurd (omega arith)
+  some l (suc n) i a b e h =
+      go (dec_lt l i) (λ (w : l < i). some (suc l) n i (omega arith) (omega arith) e (λ k x y. h k (omega arith) y))
+    where
+      go : Dec (l < i) → (l < i → Some i ≡ first_line test (suc l) n) → Some i ≡ first_line test l (suc n)
+      go (yes w) rest = rw (h l (omega arith) w) (rest w)
+      go (no w) rest = let z : l ≡ i = omega arith in rw (z, e)
 
-  later : (l n n' : ℕ) → n ≡ suc n' → test l ≡ false → first_line test (l + 1) n' ≡ first_line test l n
-  later l n n' q e = rw (q, e, add-one l)
-
-  over : (l n : ℕ) → n ≡ 0 → none ≡ first_line test l n
-  over l n e = rw e
-
-  module _ (m l : ℕ) (c : Come m l) where
-    pub come_here : l ≤ m → test l ≡ true → At l ≡ fault_of (first_line test 1 m)
-    come_here h e = ap fault_of (here l (m + 1 - l) (omega arith) e ∙ c.rest)
-
-    pub come_later : l ≤ m → test l ≡ false → Come m (l + 1)
-    come_later h e = record { low = omega arith; high = omega arith; rest = later l (m + 1 - l) (m + 1 - (l + 1)) (omega (arith, c.low)) e ∙ c.rest }
-
-    pub come_over : m < l → No ≡ fault_of (first_line test 1 m)
-    come_over h = ap fault_of (over l (m + 1 - l) (omega arith) ∙ c.rest)
+  pub found_first : (n : ℕ) (r : Option ℕ)
+      → MatchOption r (Fails 1 (n + 1)) (λ i. (1 ≤ i) × (i < n + 1) × (test i ≡ true) × Fails 1 i)
+      → r ≡ first_line test 1 n
+  found_first n None h = none 1 n (λ k a b. h k a (omega arith))
+  found_first n (Some i) h = some 1 n i h.0 (omega arith) h.2 h.3

@@ -9,29 +9,16 @@ use Rattle.reading.specs.declared.parser_state.Ending.{Ending}
 use Rattle.reading.specs.declared.parser_state.Ending.TheVariants.{Ok, Err, Stop}
 use Rattle.checks.specs.Packed.{packed, cause_of, unpacked}
 
--- ── The code's tests of a number, in the definition's order ──
-module _ (n l : ℕ) where
-  pub first_cause : n ≡ 0 → EmptyStack l ≡ cause_of n l
-  first_cause e = simp (eq-eqb n 0 e)
-
-  pub second_cause : n ≡ 1 → TokensFull l ≡ cause_of n l
-  second_cause e = simp (ne_eqb n 0 (λ f. omega arith), eq-eqb n 1 e)
-
-  pub third_cause : n ≡ 2 → StackFull l ≡ cause_of n l
-  third_cause e = simp (ne_eqb n 0 (λ f. omega arith), ne_eqb n 1 (λ f. omega arith), eq-eqb n 2 e)
-
-  pub last_cause : (n ≡ 0 → ⊥) → (n ≡ 1 → ⊥) → (n ≡ 2 → ⊥) → AttemptsFull l ≡ cause_of n l
-  last_cause f g h = simp (ne_eqb n 0 f, ne_eqb n 1 g, ne_eqb n 2 h)
-
-pub unpacked_err : (n : ℕ) → n ≡ 0 → Err ≡ unpacked n
+unpacked_err : (n : ℕ) → n ≡ 0 → Err ≡ unpacked n
 unfolding unpacked
 unpacked_err n e = simp (eq-eqb n 0 e)
 
-pub unpacked_ok : (n : ℕ) → n ≡ 1 → Ok ≡ unpacked n
+unpacked_ok : (n : ℕ) → n ≡ 1 → Ok ≡ unpacked n
 unfolding unpacked
 unpacked_ok n e = simp (ne_eqb n 0 (λ f. omega arith), eq-eqb n 1 e)
 
-pub unpacked_stop : (n : ℕ) (c : Cause) → (n ≡ 0 → ⊥) → (n ≡ 1 → ⊥) → c ≡ cause_of ((n - 2) % 4) ((n - 2) / 4 % 4294967296) → Stop c ≡ unpacked n
+unpacked_stop : (n : ℕ) (c : Cause)
+    → (n ≡ 0 → ⊥) → (n ≡ 1 → ⊥) → c ≡ cause_of ((n - 2) % 4) ((n - 2) / 4 % 4294967296) → Stop c ≡ unpacked n
 unfolding unpacked
 unpacked_stop n c f g e = rw (ne_eqb n 0 f, ne_eqb n 1 g) (ap Stop e)
 
@@ -45,9 +32,11 @@ Narrow (Stop (TokensFull line)) = line < 4294967296
 Narrow (Stop (StackFull line)) = line < 4294967296
 Narrow (Stop (AttemptsFull line)) = line < 4294967296
 
-stop_back : (n k line : ℕ) (c : Cause) → n ≡ line * 4 + (2 + k) → k < 4 → line < 4294967296 → c ≡ cause_of k line → unpacked n ≡ Stop c
+stop_back : (n k line : ℕ) (c : Cause)
+    → n ≡ line * 4 + (2 + k) → k < 4 → line < 4294967296 → c ≡ cause_of k line → unpacked n ≡ Stop c
 stop_back n k line c e h l q =
-    sym (unpacked_stop n c (λ f. omega arith) (λ f. omega arith) (q ∙ ap (λ (x : ℕ). cause_of x line) number ∙ ap (cause_of ((n - 2) % 4)) place))
+    sym (unpacked_stop n c (λ f. omega arith) (λ f. omega arith)
+    (q ∙ ap (λ (x : ℕ). cause_of x line) number ∙ ap (cause_of ((n - 2) % 4)) place))
   where
     number : k ≡ (n - 2) % 4
     number = omega arith

@@ -1,98 +1,40 @@
--- The tests 4 to 9 in order: the first that fails is the refusal, whatever the later ones say.
+-- The refusal that the tests of a run answer: its number and place tell which it is, and none is answered only where none is due.
 use mathlib.Core.Path.{◌≡◌, refl, sym, ap, ◌∙◌}
-use mathlib.Core.Bool.{Bool, true, false, ◌&&◌}
-use mathlib.Core.List.{List}
-use mathlib.Core.Option.{Option, none, some}
-use Prim.Native.Nat.{ℕ, ◌*◌, ◌≤◌, ◌<◌}
-use native.Mathlib.Omega.{arith}
-use lib.Dec.{eqb, leb}
-use lib.IntN.{ℤ}
+use lib.Dec.{eqb}
 use lib.ListN.{length}
-use borrow.Author.Tests.{le-leb, lt-leb, eqb-true}
-use Rattle.matching.specs.Utf8.{within, is_utf8}
-use Rattle.matching.proofs.Lead.{and_left, and_right, within_true}
-use Rattle.checks.specs.declared.grammar.Fault.{Fault}
+use Rattle.std.specs.Prelude.{Option, None, Result, Ok, if◌then◌else◌}
 use Rattle.checks.specs.declared.grammar.Refused.{Refused}
-use Rattle.checks.specs.declared.grammar.Refused.TheVariants.{No, By}
-use Rattle.reading.specs.Grammar.{line_count, misfit}
-use Rattle.reading.specs.Nullable.{still_repeat}
-use Rattle.reading.specs.Outcome.{Input, Refusal, good_text, first_of, refusal_on, refusal}
-use Rattle.checks.specs.FieldTests.{fault_of}
-use Rattle.reading.proofs.Accepted.{misfit_fours}
-use Rattle.checks.specs.Refusals.{refused_of, later_tests}
+use Rattle.checks.specs.declared.grammar.Refused.TheVariants.{Literals, Nodes, StillRepeat, Text, DepthLimit, Areas}
+use Rattle.reading.specs.Outcome.{Input, Refusal, refusal_on, refusal}
+use Rattle.checks.specs.Refusals.{refusal_of, refused_of}
 
--- ── A good text ──
-module _ (x : List ℕ) where
-  pub good_long : 65535 < length x → false ≡ good_text x
-  good_long h = sym (rw (lt-leb (length x) 65535 h))
+-- The refusal of a number and a place.
+told : Refusal → Refused
+told r =
+    if eqb r.number 4 then Literals
+    else if eqb r.number 5 then Nodes r.place
+    else if eqb r.number 6 then StillRepeat r.place
+    else if eqb r.number 7 then Text
+    else if eqb r.number 8 then DepthLimit
+    else Areas
 
-  pub good_is : {r : Bool} → length x ≤ 65535 → r ≡ is_utf8 x → r ≡ good_text x
-  good_is h e = e ∙ sym (rw (le-leb (length x) 65535 h))
+told_back : (r : Refused) → told (refusal_of r) ≡ r
+unfolding told
+told_back Literals = refl
+told_back (Nodes line) = refl
+told_back (StillRepeat line) = refl
+told_back Text = refl
+told_back DepthLimit = refl
+told_back Areas = refl
 
-  pub good_utf8 : {r : Bool} → r ≡ good_text x → r ≡ true → is_utf8 x ≡ true
-  good_utf8 e f = and_right (leb (length x) 65535) (is_utf8 x) (sym e ∙ f)
-
--- ── Tests 7 to 9 ──
-module _ (text : List ℕ) (depth report scratch : ℕ) {g : Bool} (e : g ≡ good_text text) where
-  abbrev Later : Refused
-  Later = refused_of (first_of (later_tests text depth report scratch))
-
-  pub later_text : g ≡ false → By 7 0 ≡ Later
-  later_text f = let z : good_text text ≡ false = sym e ∙ f in sym (rw z)
-
-  pub later_depth : g ≡ true → within 1 1024 depth ≡ false → By 8 0 ≡ Later
-  later_depth f d = let z : good_text text ≡ true = sym e ∙ f in sym (rw (z, d))
-
-  pub later_short : g ≡ true → within 1 1024 depth ≡ true → (leb 515 report && leb 4864 scratch) ≡ false → By 9 0 ≡ Later
-  later_short f d a = let z : good_text text ≡ true = sym e ∙ f in sym (rw (z, d, a))
-
-  pub later_none : g ≡ true → within 1 1024 depth ≡ true → (leb 515 report && leb 4864 scratch) ≡ true → No ≡ Later
-  later_none f d a = let z : good_text text ≡ true = sym e ∙ f in sym (rw (z, d, a))
-
--- ── All tests ──
-pub found : (o : Option ℕ) (p : ℕ) → Fault.At p ≡ fault_of o → o ≡ some p
-found none p e = let z : ◌≡◌ {A = ℕ} 0 1 = cc in absurd (omega arith)
-found (some q) p e = let z : q ≡ p = cc in ap some z
-
-pub passed : (o : Option ℕ) → Fault.No ≡ fault_of o → o ≡ none
-passed none e = refl
-passed (some q) e = let z : ◌≡◌ {A = ℕ} 0 1 = cc in absurd (omega arith)
-
-module _ (ns : List ℤ) (literals text : List ℕ) (depth report scratch : ℕ) where
-  abbrev All : Refused
-  All = refused_of (refusal_on ns literals text depth report scratch)
-
-  module _ {g : Bool} (e : g ≡ good_text literals) where
-    pub refused_4 : g ≡ false → By 4 0 ≡ All
-    refused_4 f = let z : good_text literals ≡ false = sym e ∙ f in sym (rw z)
-
-    module _ (f : g ≡ true) where
-      good : good_text literals ≡ true
-      good = sym e ∙ f
-
-      pub refused_5 : (p : ℕ) → Fault.At p ≡ fault_of (misfit ns literals) → By 5 p ≡ All
-      refused_5 p q = sym (rw (good, found (misfit ns literals) p q))
-
-      module _ (m : Fault.No ≡ fault_of (misfit ns literals)) where
-        pub refused_6 : (p : ℕ) → Fault.At p ≡ fault_of (still_repeat ns) → By 6 p ≡ All
-        refused_6 p q = sym (rw (good, passed (misfit ns literals) m, found (still_repeat ns) p q))
-
-        pub refused_later : Fault.No ≡ fault_of (still_repeat ns) → (r : Refused) → r ≡ refused_of (first_of (later_tests text depth report scratch)) → r ≡ All
-        refused_later s r q = q ∙ sym (rw (good, passed (misfit ns literals) m, passed (still_repeat ns) s))
+pub refusal_of-injective : (a b : Refused) → refusal_of a ≡ refusal_of b → a ≡ b
+refusal_of-injective a b e = sym (told_back a) ∙ ap told e ∙ told_back b
 
 -- The refusal of an input is that of its parts.
-pub of_input : {r : Refused} (i : Input) → r ≡ refused_of (refusal_on i.nodes i.literals i.text i.depth_limit (length i.report) i.scratch) → r ≡ refused_of (refusal i)
+pub of_input : {o : Option Refusal} (i : Input)
+    → o ≡ refusal_on i.nodes i.literals i.text i.depth_limit (length i.report) i.scratch → o ≡ refusal i
 unfolding refusal
 of_input i e = e
 
--- ── What test 5 gives ──
-pub few_nodes : (ns : List ℤ) (literals : List ℕ) → Fault.No ≡ fault_of (misfit ns literals) → length ns ≤ 16384
-few_nodes ns literals m =
-    let t : (eqb (line_count ns * 4) (length ns) && within 1 4096 (line_count ns)) ≡ true = misfit_fours ns literals (passed (misfit ns literals) m) in
-    let q : line_count ns * 4 ≡ length ns = eqb-true (line_count ns * 4) (length ns) (and_left (eqb (line_count ns * 4) (length ns)) _ t) in
-    let w : (1 ≤ line_count ns) × (line_count ns ≤ 4096) = within_true 1 4096 (line_count ns) (and_right (eqb (line_count ns * 4) (length ns)) _ t) in
-    omega (arith, w.1)
-
-pub not_refused : (o : Option Refusal) → No ≡ refused_of o → o ≡ none
-not_refused none e = refl
-not_refused (some r) e = let z : ◌≡◌ {A = ℕ} 0 1 = cc in absurd (omega arith)
+pub not_refused : (o : Option Refusal) {r : Result (Unit {0}) Refused} {u : Unit {0}} → r ≡ Ok u → refused_of r ≡ o → o ≡ None
+not_refused o e q = sym q ∙ ap refused_of e

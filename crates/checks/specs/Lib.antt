@@ -1,5 +1,4 @@
-pub mod FieldTests
+pub mod Lines
 pub mod Packed
-pub mod PeekIndex
 pub mod Refusals
 pub mod Tracker

@@ -1,27 +1,14 @@
 -- How the code's tracker stands for the reading's, and what an entry makes of it; and for pest's, as engine's state does.
 use Rattle.std.specs.Prelude.{Bool, true, false, ℕ, zero, suc, if◌then◌else◌}
-use Rattle.std.proofs.Math.Option.{Option, none, some}
-use Rattle.reading.specs.declared.call_limit_tracker.LimitKind.{LimitKind}
+use Rattle.std.specs.Prelude.{Option, None, Some, Result, Ok, Err}
 use Rattle.reading.specs.declared.call_limit_tracker.LimitKind.TheVariants.{Stack}
-use Rattle.checks.specs.declared.call_limit_tracker.LimitReached.{LimitReached}
-use Rattle.checks.specs.declared.call_limit_tracker.LimitReached.TheVariants as Reached
 use Rattle.checks.specs.declared.call_limit_tracker.CallLimitTracker as Code
-use Rattle.checks.specs.declared.call_limit_tracker.Admitted.{Admitted}
-use Rattle.checks.specs.declared.call_limit_tracker.Admitted.TheVariants.{Yes, No}
 use Rattle.reading.specs.Reading.{Tracker, Entry, entered, refused, enter}
 use Rattle.reading.specs.Pest as Pest
 
-abbrev pub reached_of : LimitReached → Option LimitKind
-reached_of Reached.No = none
-reached_of (Reached.By k) = some k
-
-abbrev pub reached_by : Option LimitKind → LimitReached
-reached_by none = Reached.No
-reached_by (some k) = Reached.By k
-
 -- ── The reading's tracker ──
 abbrev pub reading_of : Code.CallLimitTracker → Tracker
-reading_of t = record { limit = t.limit; counted = t.current; cause = reached_of t.reached }
+reading_of t = record { limit = t.limit; counted = t.current; cause = t.reached }
 
 -- The code's count where the reading's is `counted`. "0 means none": then nothing asks for the count, and the code leaves its own as it
 -- was, so that it never runs over.
@@ -31,34 +18,34 @@ count_of (suc l) was counted = counted
 
 -- The code's tracker for the reading's tracker t, after it was `was`.
 abbrev pub kept : (was : Code.CallLimitTracker) → Tracker → Code.CallLimitTracker
-kept was t = record { current = count_of t.limit was.current t.counted; limit = t.limit; reached = reached_by t.cause }
+kept was t = record { current = count_of t.limit was.current t.counted; limit = t.limit; reached = t.cause }
 
--- An entry as the code answers it, of a tracker that was `was`.
-abbrev pub admitted : (was : Code.CallLimitTracker) → Entry → Admitted
-admitted was (entered t) = Yes (kept was t)
-admitted was (refused t) = No (kept was t)
+-- An entry as the code answers it, of a tracker that was `was`: Ok where it is let in, Err where it is refused.
+abbrev pub admitted : (was : Code.CallLimitTracker) → Entry → Result Code.CallLimitTracker Code.CallLimitTracker
+admitted was (entered t) = Ok (kept was t)
+admitted was (refused t) = Err (kept was t)
 
 -- An entry at the code's tracker t.
-abbrev pub entry_at : (room counts : Bool) → Code.CallLimitTracker → Admitted
+abbrev pub entry_at : (room counts : Bool) → Code.CallLimitTracker → Result Code.CallLimitTracker Code.CallLimitTracker
 entry_at room counts t = admitted t (enter room counts (reading_of t))
 
 -- The same where the answer and the tracker come apart.
-abbrev pub answered : (let_in : Bool) → Code.CallLimitTracker → Admitted
-answered true t = Yes t
-answered false t = No t
+abbrev pub answered : (let_in : Bool) → Code.CallLimitTracker → Result Code.CallLimitTracker Code.CallLimitTracker
+answered true t = Ok t
+answered false t = Err t
 
 -- One counted call more.
 abbrev pub one_more : Code.CallLimitTracker → Code.CallLimitTracker
 one_more t = record { current = count_of t.limit t.current (suc t.current); limit = t.limit; reached = t.reached }
 
 -- The depth limit, which is tested last: `next` is the tracker of an entry that it lets in.
-abbrev pub by_depth : (room : Bool) → (t next : Code.CallLimitTracker) → Admitted
-by_depth room t next = if room then Yes next else No (record { current = t.current; limit = t.limit; reached = Reached.By Stack })
+abbrev pub by_depth : (room : Bool) → (t next : Code.CallLimitTracker) → Result Code.CallLimitTracker Code.CallLimitTracker
+by_depth room t next = if room then Ok next else Err (record { current = t.current; limit = t.limit; reached = Some Stack })
 
 -- ── pest's tracker ──
 abbrev pub limit_of : (current limit : ℕ) → Option Pest.CallLimit
-limit_of n zero = none
-limit_of n (suc l) = some (record { current = n; limit = suc l })
+limit_of n zero = None
+limit_of n (suc l) = Some (record { current = n; limit = suc l })
 
 abbrev pub tracker_of : Code.CallLimitTracker → Pest.CallLimitTracker
-tracker_of t = record { current_call_limit = limit_of t.current t.limit; limit_reached = reached_of t.reached }
+tracker_of t = record { current_call_limit = limit_of t.current t.limit; limit_reached = t.reached }

@@ -1,245 +1,246 @@
 // The table of kinds (refusal 5).
-ghost use Rattle.std.specs.Prelude.{◌≡◌, true, ◌&&◌, ◌||◌, ◌+◌, ◌*◌, ◌≤◌, eqb, length};
+ghost use Rattle.std.specs.Prelude.{◌≡◌, true, [], ◌&&◌, ◌+◌, ◌-◌, ◌*◌, ◌≤◌, length};
 ghost use Rattle.matching.specs.Utf8.{is_utf8};
-ghost use Rattle.reading.specs.Grammar.{line_count, node_at, kind_at, edge, fields_fit, line_fits, first_line, misfit};
+ghost use Rattle.reading.specs.Grammar.{between, scalar, count, literal_part, called, nil, name};
+ghost use Rattle.reading.specs.Grammar.{line_count, edge, fields_fit, line_fits, first_line, misfit};
 ghost use Rattle.reading.specs.Outcome.{good_text, first_of, refusal_on};
-ghost use Rattle.checks.specs.Refusals.{refused_of, later_tests};
-ghost use Rattle.checks.specs.FieldTests.{in_range, part_in, tests_of, fault_of, line_misfits};
+ghost use Rattle.checks.specs.Refusals.{refusal_of, refused_of, grammar_tests, later_tests};
+ghost use Rattle.checks.specs.Lines.{node_of, line_misfits};
 
-use crate::node::{Field, field_at, kind_at, row_of};
+use crate::node::{Node, natural_of, node_at, row_of};
 use crate::nullable::still_repeat;
+use matching::position::Position;
 use matching::utf8::is_utf8;
 
-// The first line that a test finds; 0 stands for the nodes as a whole.
-#[derive(Clone, Copy)]
-pub enum Fault {
-    No,
-    At(u32),
+// Why a run is refused: document 01's refusals 4 to 9, with the line where one is named.
+#[derive(Clone, Copy, PartialEq, Eq, Debug)]
+pub enum Refused {
+    // 4: "literal text over 65,535 bytes or not UTF-8"
+    Literals,
+    // 5: "nodes not 1 to 4,096 fours": 0; "a line against the table": the first such line
+    Nodes(u32),
+    // 6: "repeat body may stand still": the first such repeat
+    StillRepeat(u32),
+    // 7: "text over 65,535 bytes or not UTF-8"
+    Text,
+    // 8: "depth limit not 1 to 1,024"
+    DepthLimit,
+    // 9: "report under 515 or scratch under 4,864 numbers"
+    Areas,
 }
 
-// What the tests of a run find: the number and the place of the first refusal.
-#[derive(Clone, Copy)]
-pub enum Refused {
-    No,
-    By(u32, u32),
+impl Refused {
+    // The refusal's number.
+    // Kept: a number for each case: document 01's table, which C's interface gives.
+    pub fn number(self) -> u32
+        ensures { result ≡ (refusal_of self).number }
+    {
+        match self {
+            Refused::Literals => 4,
+            Refused::Nodes(_) => 5,
+            Refused::StillRepeat(_) => 6,
+            Refused::Text => 7,
+            Refused::DepthLimit => 8,
+            Refused::Areas => 9,
+        }
+    }
+
+    // The place that it names: a line, or 0.
+    pub fn place(self) -> u32
+        ensures { result ≡ (refusal_of self).place }
+    {
+        match self {
+            Refused::Nodes(line) | Refused::StillRepeat(line) => line,
+            _ => 0,
+        }
+    }
 }
 
 // Whether a field lies from `low` to `high`.
-fn between(f: Field, low: usize, high: usize) -> bool
-    ensures { result ≡ in_range low high f }
+fn between(field: i32, low: usize, high: usize) -> bool
+    ensures { result ≡ between low high field }
 {
-    f.count & ((low <= f.size) & (f.size <= high))
+    usize::try_from(field).is_ok_and(|n| low <= n && n <= high)
 }
 
 // Whether a field is a Unicode scalar value: no surrogate.
-fn scalar(f: Field) -> bool
-    ensures { result ≡ (in_range 0 0xD7FF f || in_range 0xE000 0x10FFFF f) }
+fn is_scalar(field: i32) -> bool
+    ensures { result ≡ scalar field }
 {
-    let low = between(f, 0, 0xD7FF);
-    let high = between(f, 0xE000, 0x10FFFF);
-    low | high
+    between(field, 0, 0xD7FF) || between(field, 0xE000, 0x10FFFF)
 }
 
-// Whether whole characters follow a place of a UTF-8 text: there it ends, or a byte stands that is no tail.
-fn is_edge(text: &[u8], at: usize) -> bool
-    requires { is_utf8 text.now ≡ true }
-    ensures { result ≡ edge text.now at }
+// Whether a field is a count: 0 or more.
+fn is_count(field: i32) -> bool
+    ensures { result ≡ count field }
 {
-    if text.len() < at {
-        return false;
-    }
-    if text.len() == at {
-        return true;
-    }
-    let b = text[at];
-    (b < 0x80) | (0xBF < b)
+    0 <= field
 }
 
-// Whether `size` bytes from `offset` on stand in the text, on character edges.
-fn part_fits(text: &[u8], offset: usize, size: usize) -> bool
-    requires { is_utf8 text.now ≡ true }
-    ensures { result ≡ (edge text.now offset && edge text.now (offset + size)) }
-{
-    if !is_edge(text, offset) {
-        return false;
+// A literal text that passed test 4: made where that test is, so that no later function asks for UTF-8.
+#[derive(Clone, Copy)]
+struct Literals<'a> {
+    bytes: &'a [u8],
+    ghost whole: { is_utf8 bytes.now ≡ true },
+}
+
+impl Literals<'_> {
+    // Whether whole characters follow a place.
+    fn is_edge(self, at: usize) -> bool
+        ensures { result ≡ edge self.entry.bytes.now at }
+    {
+        Position::new(self.bytes, at).is_some()
     }
-    if text.len() - offset < size {
-        return false;
+
+    // Whether `size` bytes from `offset` on stand in the text, on character edges.
+    fn has_part(self, offset: usize, size: usize) -> bool
+        ensures { result ≡ (edge self.entry.bytes.now offset && edge self.entry.bytes.now (offset + size)) }
+    {
+        self.is_edge(offset) && size <= self.bytes.len() - offset && self.is_edge(offset + size)
     }
-    is_edge(text, offset + size)
 }
 
 // Whether two fields name a part of the literal text.
-fn literal_fits(literals: &[u8], a: Field, b: Field) -> bool
-    requires { is_utf8 literals.now ≡ true }
-    ensures { result ≡ part_in literals.now a b }
+fn literal_fits(literals: Literals<'_>, a: i32, b: i32) -> bool
+    ensures { result ≡ literal_part literals.entry.bytes.now a b }
 {
-    let part = part_fits(literals, a.size, b.size);
-    a.count & b.count & part
+    is_count(a) && is_count(b) && literals.has_part(a as usize, b as usize)
 }
 
-// Whether a field names a line of kind 8.
-fn calls_rule(nodes: &[i32], a: Field) -> bool
-    ensures { result ≡ (in_range 1 (line_count nodes.now) a && eqb (kind_at nodes.now a.size) 8) }
+// Whether a field names a line of kind 8: a rule. (The definition is handed a literal text too, and doesn't look at it.)
+fn calls_rule(nodes: &[i32], a: i32) -> bool
+    ensures { result ≡ called nodes.now [] a }
 {
-    let count = nodes.len() / 4;
-    if !between(a, 1, count) {
-        return false;
-    }
-    kind_at(nodes, a.size) == 8
+    between(a, 1, nodes.len() / 4) && node_at(nodes, natural_of(a)).kind == 8
 }
 
-// The tests that the table's rows are made of, on the fields of one line.
-#[derive(Clone, Copy)]
-struct Tests {
-    part: bool,
-    scalars: bool,
-    count_a: bool,
-    nil_a: bool,
-    nil_b: bool,
-    nil_c: bool,
-    lower_a: bool,
-    lower_b: bool,
-    name_a: bool,
-    called: bool,
-    positive: bool,
-    atomicity: bool,
-    with_end: bool,
-    without: bool,
+// Whether a field is 0, as those that the table does not name are.
+fn is_nil(field: i32) -> bool
+    ensures { result ≡ nil field }
+{
+    field == 0
 }
 
-fn tests_at(nodes: &[i32], literals: &[u8], line: usize) -> Tests
-    requires line_inside { (1 ≤ line) × (line * 4 ≤ length nodes.now) }
-    requires literals_utf8 { is_utf8 literals.now ≡ true }
-    ensures { result ≡ tests_of nodes.now literals.now line (node_at nodes.now line) }
+// Whether a field names a line lower than this one.
+fn is_lower(field: i32, line: usize) -> bool
+    ensures { result ≡ between 1 (line - 1) field }
 {
-    let a = field_at(nodes, line * 4 - 3);
-    let b = field_at(nodes, line * 4 - 2);
-    let c = field_at(nodes, line * 4 - 1);
-    let part = literal_fits(literals, a, b);
-    let low = scalar(a);
-    let high = scalar(b);
-    Tests {
-        part: part,
-        scalars: low & high,
-        count_a: a.count,
-        nil_a: between(a, 0, 0),
-        nil_b: between(b, 0, 0),
-        nil_c: between(c, 0, 0),
-        lower_a: between(a, 1, line - 1),
-        lower_b: between(b, 1, line - 1),
-        name_a: between(a, 1, 65535),
-        called: calls_rule(nodes, a),
-        positive: between(b, 0, 1),
-        atomicity: between(b, 0, 2),
-        with_end: between(c, 0, 1),
-        without: between(c, 2, 3),
-    }
+    between(field, 1, line.saturating_sub(1))
 }
 
-// Whether the fields of the line fit its kind, by the table's rows.
-fn fields_fit(nodes: &[i32], literals: &[u8], line: usize) -> bool
-    requires line_inside { (1 ≤ line) × (line * 4 ≤ length nodes.now) }
-    requires literals_utf8 { is_utf8 literals.now ≡ true }
-    ensures { result ≡ fields_fit nodes.now literals.now line (node_at nodes.now line) }
+// Whether a field is a rule or a tag.
+fn is_name(field: i32) -> bool
+    ensures { result ≡ name field }
 {
-    let kind = kind_at(nodes, line);
-    let t = tests_at(nodes, literals, line);
-    let literal = t.part & t.nil_c;
-    let two = t.lower_a & t.lower_b & t.nil_c;
-    let one = t.lower_a & t.nil_b & t.nil_c;
-    let no = t.nil_a & t.nil_b & t.nil_c;
+    between(field, 1, 65535)
+}
+
+// Whether the fields of a line fit its kind, by the table's rows.
+// Kept: a table, and no `match` on the kind: nullable.rt says what was tried; the rows stand as in document 01's table.
+fn fields_fit(nodes: &[i32], literals: Literals<'_>, line: usize, node: Node) -> bool
+    ensures { result ≡ fields_fit nodes.now literals.entry.bytes.now line (node_of node) }
+{
+    let Node { kind, a, b, c } = node;
+    let nil_b = is_nil(b);
+    let nil_c = is_nil(c);
+    let lower_a = is_lower(a, line);
+    let lower_b = is_lower(b, line);
+    let name_a = is_name(a);
+    let literal = literal_fits(literals, a, b) & nil_c;
+    let two = lower_a & lower_b & nil_c;
+    let one = lower_a & nil_b & nil_c;
+    let no = is_nil(a) & nil_b & nil_c;
     let rows = [
         literal,
         literal,
-        t.scalars & t.nil_c,
-        t.count_a & t.nil_b & t.nil_c,
+        is_scalar(a) & is_scalar(b) & nil_c,
+        is_count(a) & nil_b & nil_c,
         no,
         two,
         two,
-        t.name_a & t.lower_b & t.nil_c,
+        name_a & lower_b & nil_c,
         one,
         one,
         one,
-        t.lower_a & t.positive & t.nil_c,
-        t.lower_a & t.atomicity & t.nil_c,
+        lower_a & between(b, 0, 1) & nil_c,
+        lower_a & between(b, 0, 2) & nil_c,
         one,
         no,
-        t.with_end | (t.without & t.nil_b),
+        between(c, 0, 1) | (between(c, 2, 3) & nil_b),
         no,
         one,
-        t.name_a & t.nil_b & t.nil_c,
-        t.called & t.nil_b & t.nil_c,
+        name_a & nil_b & nil_c,
+        calls_rule(nodes, a) & nil_b & nil_c,
     ];
     row_of(&rows, kind)
 }
 
 // Whether the line stands in the table.
-pub(crate) fn line_fits(nodes: &[i32], literals: &[u8], line: usize) -> bool
-    requires line_inside { (1 ≤ line) × (line * 4 ≤ length nodes.now) }
-    requires literals_utf8 { is_utf8 literals.now ≡ true }
-    ensures { result ≡ line_fits nodes.now literals.now line }
+fn line_fits(nodes: &[i32], literals: Literals<'_>, line: usize) -> bool
+    requires { (1 ≤ line) × (line * 4 ≤ length nodes.now) }
+    ensures { result ≡ line_fits nodes.now literals.entry.bytes.now line }
 {
-    let kind = field_at(nodes, line * 4 - 4);
-    let known = between(kind, 1, 20);
-    let fit = fields_fit(nodes, literals, line);
-    known & fit
+    let node = node_at(nodes, line);
+    between(node.kind, 1, 20) && fields_fit(nodes, literals, line, node)
 }
 
-// The first of the lines that does not stand in the table.
-fn first_misfit(nodes: &[i32], literals: &[u8], count: usize) -> Fault
-    requires count_in_bounds { (count * 4 ≤ length nodes.now) × (count ≤ 4096) }
-    requires literals_utf8 { is_utf8 literals.now ≡ true }
-    ensures { result ≡ fault_of (first_line (line_misfits nodes.now literals.now) 1 count) }
+// The first of at most 4,096 lines that does not stand in the table.
+fn first_misfit(nodes: &[i32], literals: Literals<'_>) -> Option<u32>
+    requires { line_count nodes.now ≤ 4096 }
+    ensures { result ≡ first_line (line_misfits nodes.now literals.entry.bytes.now) 1 (line_count nodes.now) }
 {
-    let mut line = 1;
-    while line <= count {
-        if !line_fits(nodes, literals, line) {
-            let place = line as u32;
-            return Fault::At(place);
-        }
-        line += 1;
-    }
-    Fault::No
+    let count = nodes.len() / 4;
+    (1..count as u32 + 1).find(|line| !line_fits(nodes, literals, *line as usize))
 }
 
 // Test 5: 0 where the nodes are not 1 to 4,096 fours, else the first line against the table.
-pub(crate) fn misfit(nodes: &[i32], literals: &[u8]) -> Fault
-    requires { is_utf8 literals.now ≡ true }
-    ensures { result ≡ fault_of (misfit nodes.now literals.now) }
+fn misfit(nodes: &[i32], literals: Literals<'_>) -> Option<u32>
+    ensures { result ≡ misfit nodes.now literals.entry.bytes.now }
 {
     let count = nodes.len() / 4;
-    let fours = count * 4 == nodes.len();
-    if fours & ((1 <= count) & (count <= 4096)) {
-        return first_misfit(nodes, literals, count);
+    if nodes.len() != count * 4 || count < 1 || 4096 < count {
+        return Some(0);
     }
-    Fault::At(0)
+    first_misfit(nodes, literals)
 }
 
 // "over 65,535 bytes or not UTF-8"
 fn is_good_text(text: &[u8]) -> bool
     ensures { result ≡ good_text text.now }
 {
-    if 65535 < text.len() {
-        return false;
+    text.len() <= 65535 && is_utf8(text)
+}
+
+// Tests 4 to 6: the literal text and the grammar.
+fn grammar_refusal(nodes: &[i32], literals: &[u8]) -> Result<(), Refused>
+    ensures { refused_of result ≡ first_of (grammar_tests nodes.now literals.now) }
+{
+    if !is_good_text(literals) {
+        return Err(Refused::Literals);
     }
-    is_utf8(text)
+    if let Some(line) = misfit(nodes, Literals { bytes: literals }) {
+        return Err(Refused::Nodes(line));
+    }
+    match still_repeat(nodes) {
+        Some(line) => Err(Refused::StillRepeat(line)),
+        None => Ok(()),
+    }
 }
 
 // Tests 7 to 9, which do not look at the grammar.
-fn later_refusal(text: &[u8], depth: u32, report: usize, scratch: usize) -> Refused
-    ensures { result ≡ refused_of (first_of (later_tests text.now depth report scratch)) }
+fn later_refusal(text: &[u8], depth: u32, report: usize, scratch: usize) -> Result<(), Refused>
+    ensures { refused_of result ≡ first_of (later_tests text.now depth report scratch) }
 {
     if !is_good_text(text) {
-        return Refused::By(7, 0);
+        return Err(Refused::Text);
     }
-    if !((1 <= depth) & (depth <= 1024)) {
-        return Refused::By(8, 0);
+    if depth < 1 || 1024 < depth {
+        return Err(Refused::DepthLimit);
     }
-    if !((515 <= report) & (4864 <= scratch)) {
-        return Refused::By(9, 0);
+    if report < 515 || scratch < 4864 {
+        return Err(Refused::Areas);
     }
-    Refused::No
+    Ok(())
 }
 
 // The tests of a run, 4 to 9, in order. Only where all pass is a run started. Of report and scratch the tests look at the sizes alone.
@@ -250,17 +251,9 @@ pub fn refusal(
     depth: u32,
     report: usize,
     scratch: usize,
-) -> Refused
-    ensures { result ≡ refused_of (refusal_on nodes.now literals.now text.now depth report scratch) }
+) -> Result<(), Refused>
+    ensures { refused_of result ≡ refusal_on nodes.now literals.now text.now depth report scratch }
 {
-    if !is_good_text(literals) {
-        return Refused::By(4, 0);
-    }
-    match misfit(nodes, literals) {
-        Fault::At(place) => Refused::By(5, place),
-        Fault::No => match still_repeat(nodes) {
-            Fault::At(place) => Refused::By(6, place),
-            Fault::No => later_refusal(text, depth, report, scratch),
-        },
-    }
+    grammar_refusal(nodes, literals)?;
+    later_refusal(text, depth, report, scratch)
 }

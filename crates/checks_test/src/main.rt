@@ -2,269 +2,239 @@
 // line a case, with what was answered. What is to be written was worked out from document 01.
 #![tactic(auto)]
 
-use checks::call_limit_tracker::{Admitted, CallLimitTracker, LimitReached, check_limit, entered};
-use checks::grammar::{Refused, refusal};
-use checks::node::{Index, is_top_down, natural_of, normalize_end, normalize_index};
+use checks::call_limit_tracker::{CallLimitTracker, enter, entered};
+use checks::grammar::refusal;
+use checks::node::{is_top_down, natural_of, normalize_end, normalize_index};
 use checks::packed::{packed, unpacked};
 use reading::call_limit_tracker::LimitKind;
 use reading::parser_state::{Cause, Ending};
-use std::io;
-
-fn say(rt: &impl Print, s: &[u8]) -> io::Result<()> {
-    rt.write_all(s)
-}
-
-fn number(rt: &impl Print, n: usize) -> io::Result<()> {
-    print!(rt; "{n}")
-}
+use std::{fmt, io};
 
 // ── Tests 4 to 9: the number and the place ──
-fn refused(
-    rt: &impl Print,
-    name: &[u8],
-    nodes: &[i32],
-    literals: &[u8],
-    text: &[u8],
+// What the tests look at.
+#[derive(Clone, Copy)]
+struct Case<'a> {
+    nodes: &'a [i32],
+    literals: &'a [u8],
+    text: &'a [u8],
     depth: u32,
     report: usize,
     scratch: usize,
-) -> io::Result<()> {
-    say(rt, name)?;
-    match refusal(nodes, literals, text, depth, report, scratch) {
-        Refused::No => say(rt, b": none\n"),
-        Refused::By(n, place) => {
-            say(rt, b": ")?;
-            print!(rt; "{n}")?;
-            say(rt, b" at ")?;
-            print!(rt; "{place}")?;
-            say(rt, b"\n")
-        }
+}
+
+// What no test refuses.
+const GOOD: Case<'static> = Case {
+    nodes: &[5, 0, 0, 0],
+    literals: b"",
+    text: b"",
+    depth: 1,
+    report: 515,
+    scratch: 4864,
+};
+
+fn refused(rt: &impl Print, name: &str, c: Case<'_>) -> io::Result<()> {
+    match refusal(c.nodes, c.literals, c.text, c.depth, c.report, c.scratch) {
+        Ok(()) => println!(rt; "{name}: none"),
+        Err(refused) => println!(rt; "{name}: {} at {}", refused.number(), refused.place()),
     }
 }
 
 // The grammar and the literal text, all else being good.
-fn grammar(rt: &impl Print, name: &[u8], nodes: &[i32], literals: &[u8]) -> io::Result<()> {
-    refused(rt, name, nodes, literals, b"a", 1024, 515, 4864)
+fn grammar(rt: &impl Print, name: &str, nodes: &[i32], literals: &[u8]) -> io::Result<()> {
+    let case = Case {
+        nodes,
+        literals,
+        text: b"a",
+        depth: 1024,
+        ..GOOD
+    };
+    refused(rt, name, case)
 }
 
 fn grammars(rt: &impl Print) -> io::Result<()> {
-    grammar(
-        rt,
-        b"M1's grammar",
-        &[1, 0, 1, 0, 8, 7, 1, 0, 19, 3, 0, 0, 6, 2, 3, 0],
-        b"abc",
-    )?;
-    grammar(rt, b"literals that are not UTF-8", &[5, 0, 0, 0], b"\xFF")?;
-    grammar(
-        rt,
-        b"literals that are not UTF-8, and no nodes",
-        &[],
-        b"\xFF",
-    )?;
-    grammar(rt, b"no nodes", &[], b"")?;
-    grammar(rt, b"five numbers", &[5, 0, 0, 0, 5], b"")?;
-    grammar(rt, b"kind 21", &[5, 0, 0, 0, 21, 0, 0, 0], b"")?;
-    grammar(rt, b"a sequence of its own line", &[9, 1, 0, 0], b"")?;
-    grammar(
-        rt,
-        b"a repeat of an empty text",
-        &[1, 0, 0, 0, 10, 1, 0, 0],
-        b"",
-    )?;
-    grammar(rt, b"a repeat of a text", &[1, 0, 1, 0, 10, 1, 0, 0], b"a")
-}
-
-// The other inputs, the grammar being good.
-fn input(
-    rt: &impl Print,
-    name: &[u8],
-    text: &[u8],
-    depth: u32,
-    report: usize,
-    scratch: usize,
-) -> io::Result<()> {
-    refused(rt, name, &[5, 0, 0, 0], b"", text, depth, report, scratch)
-}
-
-fn first_bytes(bytes: &[u8], n: usize) -> &[u8] {
-    if n <= bytes.len() { &bytes[..n] } else { bytes }
+    let cases: [(&str, &[i32], &[u8]); 9] = [
+        (
+            "M1's grammar",
+            &[1, 0, 1, 0, 8, 7, 1, 0, 19, 3, 0, 0, 6, 2, 3, 0],
+            b"abc",
+        ),
+        ("literals that are not UTF-8", &[5, 0, 0, 0], b"\xFF"),
+        ("literals that are not UTF-8, and no nodes", &[], b"\xFF"),
+        ("no nodes", &[], b""),
+        ("five numbers", &[5, 0, 0, 0, 5], b""),
+        ("kind 21", &[5, 0, 0, 0, 21, 0, 0, 0], b""),
+        ("a sequence of its own line", &[9, 1, 0, 0], b""),
+        ("a repeat of an empty text", &[1, 0, 0, 0, 10, 1, 0, 0], b""),
+        ("a repeat of a text", &[1, 0, 1, 0, 10, 1, 0, 0], b"a"),
+    ];
+    for (name, nodes, literals) in cases {
+        grammar(rt, name, nodes, literals)?;
+    }
+    Ok(())
 }
 
 // A text of 65,536 bytes, and all of it but the last.
-fn long_texts(rt: &impl Print, long: &[u8]) -> io::Result<()> {
-    input(
-        rt,
-        b"text of 65,535 bytes",
-        first_bytes(long, 65535),
-        1,
-        515,
-        4864,
-    )?;
-    input(rt, b"text of 65,536 bytes", long, 1, 515, 4864)?;
-    grammar(rt, b"literals of 65,536 bytes", &[5, 0, 0, 0], long)
-}
-
 fn long_inputs(rt: &impl Print) -> io::Result<()> {
     let long = [0u8; 65536];
-    long_texts(rt, &long)
+    let shorter = Case {
+        text: &long[..65535],
+        ..GOOD
+    };
+    refused(rt, "text of 65,535 bytes", shorter)?;
+    let longer = Case {
+        text: &long,
+        ..GOOD
+    };
+    refused(rt, "text of 65,536 bytes", longer)?;
+    grammar(rt, "literals of 65,536 bytes", GOOD.nodes, &long)
 }
 
+// The other inputs, the grammar being good.
 fn inputs(rt: &impl Print) -> io::Result<()> {
-    input(
-        rt,
-        b"text that is not UTF-8, and depth 0",
-        b"\x80",
-        0,
-        515,
-        4864,
-    )?;
-    input(rt, b"depth 0", b"", 0, 515, 4864)?;
-    input(rt, b"depth 1,024", b"", 1024, 515, 4864)?;
-    input(rt, b"depth 1,025, and a short report", b"", 1025, 514, 4864)?;
-    input(rt, b"report of 514 numbers", b"", 1, 514, 4864)?;
-    input(rt, b"scratch of 4,863 numbers", b"", 1, 515, 4863)
+    let cases = [
+        (
+            "text that is not UTF-8, and depth 0",
+            Case {
+                text: b"\x80",
+                depth: 0,
+                ..GOOD
+            },
+        ),
+        ("depth 0", Case { depth: 0, ..GOOD }),
+        (
+            "depth 1,024",
+            Case {
+                depth: 1024,
+                ..GOOD
+            },
+        ),
+        (
+            "depth 1,025, and a short report",
+            Case {
+                depth: 1025,
+                report: 514,
+                ..GOOD
+            },
+        ),
+        (
+            "report of 514 numbers",
+            Case {
+                report: 514,
+                ..GOOD
+            },
+        ),
+        (
+            "scratch of 4,863 numbers",
+            Case {
+                scratch: 4863,
+                ..GOOD
+            },
+        ),
+    ];
+    for (name, case) in cases {
+        refused(rt, name, case)?;
+    }
+    Ok(())
 }
 
 // ── The fields of kind 16 ──
-fn index(rt: &impl Print, i: Index) -> io::Result<()> {
+fn index(rt: &impl Print, i: Option<usize>) -> io::Result<()> {
     match i {
-        Index::At(n) => {
-            number(rt, n)?;
-            say(rt, b"\n")
-        }
-        Index::Outside => say(rt, b"outside\n"),
+        Some(n) => println!(rt; "{n}"),
+        None => println!(rt; "outside"),
     }
 }
 
-fn start(rt: &impl Print, name: &[u8], i: i32, height: usize) -> io::Result<()> {
-    say(rt, b"start ")?;
-    say(rt, name)?;
-    say(rt, b" of ")?;
-    number(rt, height)?;
-    say(rt, b": ")?;
+fn start(rt: &impl Print, name: &str, i: i32, height: usize) -> io::Result<()> {
+    print!(rt; "start {name} of {height}: ")?;
     index(rt, normalize_index(i, height))
 }
 
-fn end(rt: &impl Print, name: &[u8], i: i32, c: usize, height: usize) -> io::Result<()> {
-    say(rt, b"end ")?;
-    say(rt, name)?;
-    say(rt, b" by c ")?;
-    number(rt, c)?;
-    say(rt, b" of ")?;
-    number(rt, height)?;
-    say(rt, b": ")?;
+fn end(rt: &impl Print, i: i32, c: usize, height: usize) -> io::Result<()> {
+    print!(rt; "end {i} by c {c} of {height}: ")?;
     index(rt, normalize_end(i, c, height))
 }
 
 fn indexes(rt: &impl Print) -> io::Result<()> {
-    start(rt, b"0", 0, 0)?;
-    start(rt, b"1", 1, 0)?;
-    start(rt, b"-1", -1, 0)?;
-    start(rt, b"3", 3, 3)?;
-    start(rt, b"4", 4, 3)?;
-    start(rt, b"-1", -1, 3)?;
-    start(rt, b"-3", -3, 3)?;
-    start(rt, b"-4", -4, 3)?;
-    start(rt, b"the least", -2147483648, 2147483647)?;
-    start(rt, b"the least", -2147483648, 2147483649)?;
-    end(rt, b"-1", -1, 0, 3)?;
-    end(rt, b"4", 4, 1, 3)?;
-    end(rt, b"0", 0, 2, 3)?;
-    end(rt, b"0", 0, 3, 3)
-}
-
-fn top_down(rt: &impl Print, c: usize) -> io::Result<()> {
-    say(rt, b"c ")?;
-    number(rt, c)?;
-    if is_top_down(c) {
-        say(rt, b": top down\n")
-    } else {
-        say(rt, b": bottom up\n")
-    }
-}
-
-fn natural(rt: &impl Print, name: &[u8], x: i32) -> io::Result<()> {
-    say(rt, b"field ")?;
-    say(rt, name)?;
-    say(rt, b": ")?;
-    number(rt, natural_of(x))?;
-    say(rt, b"\n")
+    start(rt, "0", 0, 0)?;
+    start(rt, "1", 1, 0)?;
+    start(rt, "-1", -1, 0)?;
+    start(rt, "3", 3, 3)?;
+    start(rt, "4", 4, 3)?;
+    start(rt, "-1", -1, 3)?;
+    start(rt, "-3", -3, 3)?;
+    start(rt, "-4", -4, 3)?;
+    start(rt, "the least", i32::MIN, 2147483647)?;
+    start(rt, "the least", i32::MIN, 2147483649)?;
+    end(rt, -1, 0, 3)?;
+    end(rt, 4, 1, 3)?;
+    end(rt, 0, 2, 3)?;
+    end(rt, 0, 3, 3)
 }
 
 fn fields(rt: &impl Print) -> io::Result<()> {
-    top_down(rt, 0)?;
-    top_down(rt, 1)?;
-    top_down(rt, 2)?;
-    top_down(rt, 3)?;
-    natural(rt, b"-1", -1)?;
-    natural(rt, b"0", 0)?;
-    natural(rt, b"the greatest", 2147483647)?;
-    natural(rt, b"the least", -2147483648)
+    for c in 0..4 {
+        let order = if is_top_down(c) {
+            "top down"
+        } else {
+            "bottom up"
+        };
+        println!(rt; "c {c}: {order}")?;
+    }
+    println!(rt; "field -1: {}", natural_of(-1))?;
+    println!(rt; "field 0: {}", natural_of(0))?;
+    println!(rt; "field the greatest: {}", natural_of(i32::MAX))?;
+    println!(rt; "field the least: {}", natural_of(i32::MIN))
 }
 
 // ── The tracker: the calls, the limit and the cause, before and after an entry ──
-fn cause(rt: &impl Print, r: LimitReached) -> io::Result<()> {
-    match r {
-        LimitReached::No => say(rt, b"no cause"),
-        LimitReached::By(k) => match k {
-            LimitKind::Call => say(rt, b"call limit"),
-            LimitKind::Stack => say(rt, b"stack limit"),
-        },
+// What is printed of a value of another crate.
+#[derive(Clone, Copy)]
+struct Shown<T>(T);
+
+impl fmt::Display for Shown<CallLimitTracker> {
+    fn fmt<W: fmt::Write>(&self, f: &mut fmt::Formatter<W>) -> fmt::Result {
+        let t = self.0;
+        let cause = match t.reached {
+            None => "no cause",
+            Some(LimitKind::Call) => "call limit",
+            Some(LimitKind::Stack) => "stack limit",
+        };
+        write!(f, "{} of {}, {cause}", t.current, t.limit)
     }
 }
 
-fn tracker(rt: &impl Print, t: CallLimitTracker) -> io::Result<()> {
-    number(rt, t.current)?;
-    say(rt, b" of ")?;
-    number(rt, t.limit)?;
-    say(rt, b", ")?;
-    let reached = t.reached;
-    cause(rt, reached)
-}
-
-fn answer(rt: &impl Print, let_in: bool, t: CallLimitTracker) -> io::Result<()> {
-    if let_in {
-        say(rt, b"in, ")?;
-    } else {
-        say(rt, b"refused, ")?;
+fn answer(rt: &impl Print, came: Result<CallLimitTracker, CallLimitTracker>) -> io::Result<()> {
+    match came {
+        Ok(t) => println!(rt; "in, {}", Shown(t)),
+        Err(t) => println!(rt; "refused, {}", Shown(t)),
     }
-    tracker(rt, t)?;
-    say(rt, b"\n")
 }
 
-// By value, then lent: `check_limit` makes a local of the tracker and lends it to `enter`.
+// By value, then lent.
 fn entry(rt: &impl Print, t: CallLimitTracker, counted: bool, room: usize) -> io::Result<()> {
-    tracker(rt, t)?;
-    if counted {
-        say(rt, b"; a counted call, room for ")?;
-    } else {
-        say(rt, b"; a call, room for ")?;
-    }
-    number(rt, room)?;
-    say(rt, b": ")?;
-    match entered(t, counted, 0 < room) {
-        Admitted::Yes(u) => answer(rt, true, u)?,
-        Admitted::No(u) => answer(rt, false, u)?,
-    }
-    say(rt, b"  lent: ")?;
-    let lent = check_limit(t, counted, room);
-    let after = lent.tracker;
-    answer(rt, lent.answer, after)
+    let call = if counted { "a counted call" } else { "a call" };
+    print!(rt; "{}; {call}, room for {room}: ", Shown(t))?;
+    answer(rt, entered(t, counted, 0 < room))?;
+    let mut lent = t;
+    let let_in = enter(&mut lent, counted, room);
+    print!(rt; "  lent: ")?;
+    answer(rt, if let_in { Ok(lent) } else { Err(lent) })
 }
 
 fn at(current: usize, limit: usize) -> CallLimitTracker {
     CallLimitTracker {
         current,
         limit,
-        reached: LimitReached::No,
+        reached: None,
     }
 }
 
-fn stopped(current: usize, limit: usize, k: LimitKind) -> CallLimitTracker {
+fn stopped(current: usize, limit: usize, kind: LimitKind) -> CallLimitTracker {
     CallLimitTracker {
         current,
         limit,
-        reached: LimitReached::By(k),
+        reached: Some(kind),
     }
 }
 
@@ -285,32 +255,22 @@ fn entries(rt: &impl Print) -> io::Result<()> {
 }
 
 // ── An ending as one number, and the ending of that number ──
-fn stop_at(rt: &impl Print, name: &[u8], line: u32) -> io::Result<()> {
-    say(rt, name)?;
-    print!(rt; "{line}")
-}
-
-fn ending(rt: &impl Print, e: Ending) -> io::Result<()> {
-    match e {
-        Ending::Ok => say(rt, b"Ok"),
-        Ending::Err => say(rt, b"Err"),
-        Ending::Stop(c) => match c {
-            Cause::EmptyStack(line) => stop_at(rt, b"empty stack at ", line),
-            Cause::TokensFull(line) => stop_at(rt, b"tokens full at ", line),
-            Cause::StackFull(line) => stop_at(rt, b"stack full at ", line),
-            Cause::AttemptsFull(line) => stop_at(rt, b"attempts full at ", line),
-        },
+impl fmt::Display for Shown<Ending> {
+    fn fmt<W: fmt::Write>(&self, f: &mut fmt::Formatter<W>) -> fmt::Result {
+        match self.0 {
+            Ending::Ok => write!(f, "Ok"),
+            Ending::Err => write!(f, "Err"),
+            Ending::Stop(Cause::EmptyStack(line)) => write!(f, "empty stack at {line}"),
+            Ending::Stop(Cause::TokensFull(line)) => write!(f, "tokens full at {line}"),
+            Ending::Stop(Cause::StackFull(line)) => write!(f, "stack full at {line}"),
+            Ending::Stop(Cause::AttemptsFull(line)) => write!(f, "attempts full at {line}"),
+        }
     }
 }
 
 fn there_and_back(rt: &impl Print, e: Ending) -> io::Result<()> {
-    ending(rt, e)?;
-    say(rt, b": ")?;
     let n = packed(e);
-    number(rt, n)?;
-    say(rt, b", ")?;
-    ending(rt, unpacked(n))?;
-    say(rt, b"\n")
+    println!(rt; "{}: {n}, {}", Shown(e), Shown(unpacked(n)))
 }
 
 fn endings(rt: &impl Print) -> io::Result<()> {
@@ -319,7 +279,7 @@ fn endings(rt: &impl Print) -> io::Result<()> {
     there_and_back(rt, Ending::Stop(Cause::EmptyStack(0)))?;
     there_and_back(rt, Ending::Stop(Cause::TokensFull(1)))?;
     there_and_back(rt, Ending::Stop(Cause::StackFull(4096)))?;
-    there_and_back(rt, Ending::Stop(Cause::AttemptsFull(4294967295)))
+    there_and_back(rt, Ending::Stop(Cause::AttemptsFull(u32::MAX)))
 }
 
 fn main(rt: HostRuntime) -> io::Result<()> {

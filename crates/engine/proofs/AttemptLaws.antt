@@ -1,13 +1,13 @@
 -- The attempts: each law is one arm of the code, over the two regions' offsets and the counts. The last part says that these steps
 -- are pest's own, on the state's three fields.
-use Rattle.std.specs.Prelude.{if◌then◌else◌}
+use Rattle.std.specs.Prelude.{Option, None, Some, option_map, if◌then◌else◌}
 use mathlib.Core.Path.{◌≡◌, refl, sym, ap, ap₂, ◌∙◌}
 use mathlib.Core.Bool.{Bool, true, false, ◌&&◌, not}
 use mathlib.Core.List.{List, [], ◌∷◌, ◌++◌}
 use Prim.Native.Nat.{ℕ, ◌+◌, ◌-◌, ◌≤◌, ◌<◌, min}
 use native.Mathlib.Omega.{arith}
 use native.Mathlib.Decide.{dec_le}
-use lib.ListN.{length, take, set, length-append}
+use lib.ListN.{length, take, length-append}
 use lib.Seq.{take_all}
 use lib.Dec.{eqb, ltb}
 use borrow.Author.Tests.{eq-eqb, ne_eqb, lt-ltb, le-ltb}
@@ -17,10 +17,10 @@ use Rattle.reading.specs.Ending.{is_negative, is_atomic}
 use Rattle.reading.specs.Reading.{most_attempts}
 use Rattle.reading.specs.Pest as Pest
 use Rattle.reading.specs.Pest.{ParserState}
-use Rattle.engine.specs.Areas.{numbers, Outside, positives_at, negatives_at}
-use Rattle.engine.specs.Attempts.{Tried, tried, tried_of, with_tried, noted, truncated, advanced, appended, tracked, Track, kept, full, within, Few}
-use Rattle.engine.proofs.Regions.{outside_refl, outside_set, numbers_length, numbers_same, same_below, same_above}
-use Rattle.engine.proofs.AreaLaws.{outside_set_in, numbers_set, numbers_take}
+use Rattle.engine.specs.Areas.{numbers, Outside, positives_at, negatives_at, lengths_at}
+use Rattle.engine.specs.Attempts.{Tried, tried, tried_of, with_tried, noted, truncated, advanced, appended, tracked, within, PushedAt, Few, Lent}
+use Rattle.engine.proofs.Regions.{outside_refl, outside_set, outside_wider, numbers_length, numbers_same, same_below, same_above}
+use Rattle.engine.proofs.AreaLaws.{numbers_set, numbers_take}
 
 tried_ext : {f f' : ℕ} {p p' n n' : List ℕ} → f ≡ f' → p ≡ p' → n ≡ n'
     → ◌≡◌ {A = Tried} (record { furthest = f; positive = p; negative = n }) (record { furthest = f'; positive = p'; negative = n' })
@@ -43,9 +43,6 @@ module _ (a : List ℕ) (ps ns f x y p : ℕ) where
       sym (rw (eq-eqb f p e, eq-eqb p f (sym e))
       (nt_ext (ap₂ (λ (m n : ℕ). m + n) (numbers_length a ps x) (numbers_length a ns y)) (numbers_length a ps x) (numbers_length a ns y)))
 
-  pub note_off : (f ≡ p → ⊥) → nt 0 0 0 ≡ noted p (tr a ps ns f x y)
-  note_off e = rw (ne_eqb f p e, ne_eqb p f (λ q. e (sym q)))
-
 -- ── cut ──
 take_min : (a : List ℕ) (at n m : ℕ) → numbers a at (min m n) ≡ take m (numbers a at n)
 take_min a at n m = go (dec_le m n)
@@ -64,71 +61,83 @@ module _ (a : List ℕ) (ps ns f x y p : ℕ) (n : Noted) where
   unfolding numbers
   cut_further e l = rw (ne_eqb p f e, lt-ltb f p l)
 
-  pub cut_off : (p ≡ f → ⊥) → p ≤ f → tr a ps ns f x y ≡ advanced p (truncated p n (tr a ps ns f x y))
-  cut_off e l = rw (ne_eqb p f e, le-ltb f p l)
-
 -- ── append ──
 -- lists that hold at most 256 rules
-within_few : (t : Tried) → length t.positive ≤ 256 → length t.negative ≤ 256 → kept t ≡ within t
+within_few : (t : Tried) → length t.positive ≤ 256 → length t.negative ≤ 256 → Some t ≡ within t
 within_few t h g = rw (le-ltb most_attempts (length t.positive) h, le-ltb most_attempts (length t.negative) g)
 
-within_full_positive : (t : Tried) → 256 < length t.positive → full ≡ within t
+within_full_positive : (t : Tried) → 256 < length t.positive → None ≡ within t
 within_full_positive t h = rw (lt-ltb most_attempts (length t.positive) h)
 
-within_full_negative : (t : Tried) → length t.positive ≤ 256 → 256 < length t.negative → full ≡ within t
+within_full_negative : (t : Tried) → length t.positive ≤ 256 → 256 < length t.negative → None ≡ within t
 within_full_negative t h g = rw (le-ltb most_attempts (length t.positive) h, lt-ltb most_attempts (length t.negative) g)
 
-module _ (a : List ℕ) (ps ns hi f x y p r : ℕ) (neg : Bool) (near : ps + 256 ≤ ns) (end : ns + 256 ≤ hi) (room : hi ≤ length a) (fx : x ≤ 256) (fy : y ≤ 256) where
-  pub append_off : (p ≡ f → ⊥) → (kept (tr a ps ns f x y) ≡ within (appended r p neg (tr a ps ns f x y))) × Outside ps hi a a
+module _ (a : List ℕ) (t : Attempts) (p r : ℕ) (neg : Bool) (lent : Lent a t) where
+  abbrev f : ℕ
+  f = t.furthest.0
+
+  abbrev x : ℕ
+  x = t.positives
+
+  abbrev y : ℕ
+  y = t.negatives
+
+  abbrev ps : List ℕ
+  ps = numbers a positives_at x
+
+  abbrev ns : List ℕ
+  ns = numbers a negatives_at y
+
+  pub append_off : (p ≡ f → ⊥) → (Some (tried a t) ≡ within (appended r p neg (tried a t))) × Outside positives_at lengths_at a a
   append_off e =
-      (within_few (tr a ps ns f x y) (omega (arith, numbers_length a ps x)) (omega (arith, numbers_length a ns y)) ∙ ap within (sym (off e)), outside_refl a)
+      (within_few (tried a t) (omega (arith, lent.few.few_positives, numbers_length a positives_at x)) (omega (arith, lent.few.few_negatives, numbers_length a negatives_at y)) ∙ ap within (sym off), outside_refl a)
     where
-      off : (p ≡ f → ⊥) → appended r p neg (tr a ps ns f x y) ≡ tr a ps ns f x y
-      off e = rw (ne_eqb p f e)
+      off : appended r p neg (tried a t) ≡ tried a t
+      off = rw (ne_eqb p f e)
 
-  negative_is : p ≡ f → neg ≡ true → appended r p neg (tr a ps ns f x y) ≡ record { furthest = f; positive = numbers a ps x; negative = numbers a ns y ++ (r ∷ []) }
-  negative_is e t = rw (eq-eqb p f e, t)
+  negative_is : p ≡ f → neg ≡ true → appended r p neg (tried a t) ≡ record { furthest = f; positive = ps; negative = ns ++ (r ∷ []) }
+  negative_is e q = rw (eq-eqb p f e, q)
 
-  positive_is : p ≡ f → neg ≡ false → appended r p neg (tr a ps ns f x y) ≡ record { furthest = f; positive = numbers a ps x ++ (r ∷ []); negative = numbers a ns y }
-  positive_is e t = rw (eq-eqb p f e, t)
+  positive_is : p ≡ f → neg ≡ false → appended r p neg (tried a t) ≡ record { furthest = f; positive = ps ++ (r ∷ []); negative = ns }
+  positive_is e q = rw (eq-eqb p f e, q)
 
-  pub append_negative : p ≡ f → neg ≡ true → y < 256
-      → (kept (tr (set a (ns + y) r) ps ns f x (y + 1)) ≡ within (appended r p neg (tr a ps ns f x y))) × Outside ps hi a (set a (ns + y) r)
-  append_negative e t l =
-      let o : Outside (ns + y) (ns + y + 1) a (set a (ns + y) r) = outside_set a (ns + y) r in
-      let same : tr (set a (ns + y) r) ps ns f x (y + 1) ≡ appended r p neg (tr a ps ns f x y) =
-      tried_ext refl (sym (numbers_same a (set a (ns + y) r) ps x (same_below ps (ps + x) (omega arith) o))) (numbers_set a ns y r (omega arith)) ∙ sym (negative_is e t) in (
-        within_few (tr (set a (ns + y) r) ps ns f x (y + 1)) (omega (arith, numbers_length (set a (ns + y) r) ps x)) (omega (arith, numbers_length (set a (ns + y) r) ns (y + 1))) ∙ ap within same,
-        outside_set_in a ps hi (ns + y) r (omega arith) (omega arith),
+  -- What `push` answers decides the list that it was asked for, and the other is as it was.
+  pub append_negative : (b : List ℕ) (o : Option ℕ) → p ≡ f → neg ≡ true → PushedAt negatives_at y r a b o
+      → (option_map (λ (n : ℕ). tried b (record { furthest = t.furthest; positives = x; negatives = n })) o ≡ within (appended r p neg (tried a t))) × Outside positives_at lengths_at a b
+  append_negative b None e q (full, same) =
+      let s : Tried = record { furthest = f; positive = ps; negative = ns ++ (r ∷ []) } in (
+        within_full_negative s (omega (arith, lent.few.few_positives, numbers_length a positives_at x)) (omega (arith, numbers_length a negatives_at y, length-append ns (r ∷ [])))
+            ∙ ap within (sym (negative_is e q)),
+        rw same (outside_refl a),
+      )
+  append_negative b (Some n) e q (room, more, is) =
+      let size : 4864 ≤ length a = lent.room in
+      let o : Outside (negatives_at + y) (negatives_at + y + 1) a b = rw is (outside_set a (negatives_at + y) r) in
+      let kept : numbers b positives_at x ≡ ps = sym (numbers_same a b positives_at x (same_below positives_at (positives_at + x) (omega (arith, lent.few.few_positives)) o)) in
+      let grown : numbers b negatives_at n ≡ ns ++ (r ∷ []) = rw (is, more) (numbers_set a negatives_at y r (omega arith)) in
+      let same : tried b (record { furthest = t.furthest; positives = x; negatives = n }) ≡ appended r p neg (tried a t) = tried_ext refl kept grown ∙ sym (negative_is e q) in (
+        within_few _ (omega (arith, lent.few.few_positives, numbers_length b positives_at x)) (omega (arith, numbers_length b negatives_at n)) ∙ ap within same,
+        outside_wider (omega arith) (omega arith) o,
       )
 
-  pub append_negative_full : p ≡ f → neg ≡ true → 256 ≤ y → (full ≡ within (appended r p neg (tr a ps ns f x y))) × Outside ps hi a a
-  append_negative_full e t l =
-      let s : Tried = record { furthest = f; positive = numbers a ps x; negative = numbers a ns y ++ (r ∷ []) } in
-      (within_full_negative s (omega (arith, numbers_length a ps x)) (omega (arith, numbers_length a ns y, length-append (numbers a ns y) (r ∷ []))) ∙ ap within (sym (negative_is e t)), outside_refl a)
-
-  pub append_positive : p ≡ f → neg ≡ false → x < 256
-      → (kept (tr (set a (ps + x) r) ps ns f (x + 1) y) ≡ within (appended r p neg (tr a ps ns f x y))) × Outside ps hi a (set a (ps + x) r)
-  append_positive e t l =
-      let o : Outside (ps + x) (ps + x + 1) a (set a (ps + x) r) = outside_set a (ps + x) r in
-      let same : tr (set a (ps + x) r) ps ns f (x + 1) y ≡ appended r p neg (tr a ps ns f x y) =
-      tried_ext refl (numbers_set a ps x r (omega arith)) (sym (numbers_same a (set a (ps + x) r) ns y (same_above ns (ns + y) (omega arith) o))) ∙ sym (positive_is e t) in (
-        within_few (tr (set a (ps + x) r) ps ns f (x + 1) y) (omega (arith, numbers_length (set a (ps + x) r) ps (x + 1))) (omega (arith, numbers_length (set a (ps + x) r) ns y)) ∙ ap within same,
-        outside_set_in a ps hi (ps + x) r (omega arith) (omega arith),
+  pub append_positive : (b : List ℕ) (o : Option ℕ) → p ≡ f → neg ≡ false → PushedAt positives_at x r a b o
+      → (option_map (λ (n : ℕ). tried b (record { furthest = t.furthest; positives = n; negatives = y })) o ≡ within (appended r p neg (tried a t))) × Outside positives_at lengths_at a b
+  append_positive b None e q (full, same) =
+      let s : Tried = record { furthest = f; positive = ps ++ (r ∷ []); negative = ns } in (
+        within_full_positive s (omega (arith, numbers_length a positives_at x, length-append ps (r ∷ []))) ∙ ap within (sym (positive_is e q)),
+        rw same (outside_refl a),
       )
-
-  pub append_positive_full : p ≡ f → neg ≡ false → 256 ≤ x → (full ≡ within (appended r p neg (tr a ps ns f x y))) × Outside ps hi a a
-  append_positive_full e t l =
-      let s : Tried = record { furthest = f; positive = numbers a ps x ++ (r ∷ []); negative = numbers a ns y } in
-      (within_full_positive s (omega (arith, numbers_length a ps x, length-append (numbers a ps x) (r ∷ []))) ∙ ap within (sym (positive_is e t)), outside_refl a)
+  append_positive b (Some n) e q (room, more, is) =
+      let size : 4864 ≤ length a = lent.room in
+      let o : Outside (positives_at + x) (positives_at + x + 1) a b = rw is (outside_set a (positives_at + x) r) in
+      let kept : numbers b negatives_at y ≡ ns = sym (numbers_same a b negatives_at y (same_above negatives_at (negatives_at + y) (omega arith) o)) in
+      let grown : numbers b positives_at n ≡ ps ++ (r ∷ []) = rw (is, more) (numbers_set a positives_at x r (omega arith)) in
+      let same : tried b (record { furthest = t.furthest; positives = n; negatives = y }) ≡ appended r p neg (tried a t) = tried_ext refl grown kept ∙ sym (positive_is e q) in (
+        within_few _ (omega (arith, numbers_length b positives_at n)) (omega (arith, lent.few.few_negatives, numbers_length b negatives_at y)) ∙ ap within same,
+        outside_wider (omega arith) (omega arith) o,
+      )
 
 -- ── track ──
-pub grew_yes : (prev curr : ℕ) → prev < curr → eqb (curr - prev) 1 ≡ (ltb prev curr && eqb (curr - prev) 1)
-grew_yes prev curr h = rw (lt-ltb prev curr h)
-
-pub grew_no : (prev curr : ℕ) → curr ≤ prev → false ≡ (ltb prev curr && eqb (curr - prev) 1)
-grew_no prev curr h = rw (le-ltb prev curr h)
-
 abbrev grew : Noted → Noted → Bool
 grew n m = ltb n.total m.total && eqb (m.total - n.total) 1
 
@@ -136,21 +145,13 @@ module _ (a : List ℕ) (ps ns f x y p r : ℕ) (m n : Noted) (neg : Bool) (e : 
   same_test : grew n m ≡ grew n (noted p (tr a ps ns f x y))
   same_test = ap (grew n) e
 
-  pub track_none : (b : Bool) → b ≡ grew n m → b ≡ true → x ≤ 256 → y ≤ 256 → kept (tr a ps ns f x y) ≡ within (tracked r p n neg (tr a ps ns f x y))
+  pub track_none : (b : Bool) → b ≡ grew n m → b ≡ true → x ≤ 256 → y ≤ 256 → Some (tr a ps ns f x y) ≡ within (tracked r p n neg (tr a ps ns f x y))
   track_none b q t fx fy =
       within_few (tr a ps ns f x y) (omega (arith, numbers_length a ps x)) (omega (arith, numbers_length a ns y))
-      ∙ ap within (sym (none (sym same_test ∙ sym q ∙ t)))
+      ∙ ap within (sym (skipped (sym same_test ∙ sym q ∙ t)))
     where
-      none : grew n (noted p (tr a ps ns f x y)) ≡ true → tracked r p n neg (tr a ps ns f x y) ≡ tr a ps ns f x y
-      none g = rw g
-
-  pub track_some : (b : Bool) (u : Tried) (w : Track) → b ≡ grew n m → b ≡ false → u ≡ advanced p (truncated p n (tr a ps ns f x y)) → w ≡ within (appended r p neg u)
-      → w ≡ within (tracked r p n neg (tr a ps ns f x y))
-  track_some b u w q t c h =
-      h ∙ ap (λ (s : Tried). within (appended r p neg s)) c ∙ ap within (sym (some (sym same_test ∙ sym q ∙ t)))
-    where
-      some : grew n (noted p (tr a ps ns f x y)) ≡ false → tracked r p n neg (tr a ps ns f x y) ≡ appended r p neg (advanced p (truncated p n (tr a ps ns f x y)))
-      some g = rw g
+      skipped : grew n (noted p (tr a ps ns f x y)) ≡ true → tracked r p n neg (tr a ps ns f x y) ≡ tr a ps ns f x y
+      skipped g = rw g
 
 -- ── pest's own steps ──
 with_if : (b : Bool) (x y : Tried) (m : ParserState) → (if b then with_tried x m else with_tried y m) ≡ with_tried (if b then x else y) m

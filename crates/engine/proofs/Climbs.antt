@@ -12,7 +12,7 @@ use lib.ListN.{length}
 use borrow.Author.Tests.{eq-eqb, ne_eqb, eqb-true}
 use Rattle.engine.specs.declared.node.Line.{Line}
 use Rattle.engine.specs.declared.spine.Spine.{Spine}
-use Rattle.engine.specs.Fields as Code
+use Rattle.engine.specs.declared.parser_state.ParserState as Code
 use Rattle.reading.specs.declared.parser_state.Ending as Coded
 use Rattle.reading.specs.declared.parser_state.Ending.TheVariants as Coded-of
 use Rattle.reading.specs.declared.parser_state.Cause.{Cause}

@@ -1,7 +1,7 @@
 -- The customer's three demands, of what `run` returns: the record that its `ensures` cites is all that the laws of reading ask for.
 use mathlib.Core.Path.{◌≡◌}
 use mathlib.Core.List.{List}
-use mathlib.Core.Option.{none}
+use Rattle.std.specs.Prelude.{None}
 use Prim.Native.Nat.{ℕ}
 use Rattle.engine.specs.declared.state.Outcome as Returned
 use Rattle.engine.specs.Conclude.{outcome_of}
@@ -27,11 +27,11 @@ pub record Run : Type 0 where
 pub demand_1 : (a : Run) → Demand1 a.handed (outcome_of a.returned a.tokens a.report) a.before a.scratch
 demand_1 a = First.demand_1 a.handed a.before a.scratch (outcome_of a.returned a.tokens a.report) a.ran
 
-pub demand_2 : (a : Run) → refusal a.handed ≡ none → Demand2 a.handed (outcome_of a.returned a.tokens a.report)
+pub demand_2 : (a : Run) → refusal a.handed ≡ None → Demand2 a.handed (outcome_of a.returned a.tokens a.report)
 demand_2 a e = Second.demand_2 a.handed e (outcome_of a.returned a.tokens a.report) a.ran
 
 -- "Take any two started runs, whatever grammar, text, limits and areas each was given."
-pub demand_3 : (a b : Run) → refusal a.handed ≡ none → refusal b.handed ≡ none
+pub demand_3 : (a b : Run) → refusal a.handed ≡ None → refusal b.handed ≡ None
     → Demand3 a.handed b.handed (outcome_of a.returned a.tokens a.report) (outcome_of b.returned b.tokens b.report)
 demand_3 a b e d =
     Third.demand_3 a.handed b.handed e d (outcome_of a.returned a.tokens a.report) (outcome_of b.returned b.tokens b.report) a.ran b.ran

@@ -2,10 +2,10 @@
 -- side or is done, and the evaluation of the line that the walk began with goes along.
 use Rattle.std.specs.Prelude.{if◌then◌else◌}
 use mathlib.Core.Path.{◌≡◌, refl, sym, ap, subst, ◌∙◌}
-use mathlib.Core.Bool.{Bool, true, false, true≢false, false≢true}
+use mathlib.Core.Bool.{Bool, true, false}
 use mathlib.Core.Logic.{inl, inr}
 use mathlib.Core.List.{List}
-use mathlib.Core.Option.{Option, none, some}
+use Rattle.std.specs.Prelude.{Option, None, Some}
 use Prim.Native.Nat.{ℕ, ◌≤◌, ◌<◌}
 use native.Mathlib.Omega.{arith}
 use lib.IntN.{ℤ}
@@ -14,19 +14,19 @@ use borrow.Author.Tests.{eq-eqb, ne_eqb}
 use Rattle.matching.specs.Position as Position
 use Rattle.matching.specs.Answers.{matched}
 use Rattle.matching.specs.declared.position.BytePosition.{BytePosition}
-use Rattle.matching.specs.declared.position.Matched.{Matched}
-use Rattle.matching.specs.declared.position.Matched.TheVariants as Matched-of
 use Rattle.engine.specs.declared.node.Line as Read
-use Rattle.engine.specs.Fields as Code
+use Rattle.engine.specs.declared.parser_state.ParserState as Code
 use Rattle.reading.specs.Ending.{Ending, Ok, Err}
 use Rattle.reading.specs.Fit.{Fit}
 use Rattle.reading.specs.Grammar.{node_at, kind_at, tree_at}
 use Rattle.reading.specs.Pest as Pest
 use Rattle.reading.specs.Pest.{ParserState, set_position}
 use Rattle.engine.specs.Areas.{view, view_end}
-use Rattle.engine.specs.Evaluation.{setting_of, Line, evaluated}
+use Rattle.engine.specs.Evaluation.{setting_of, Line, evaluated, evaluates}
 use Rattle.engine.specs.declared.leaves.Halt.{Halt}
-use Rattle.engine.specs.Leaves.{Onto, Walked, answer}
+use Rattle.engine.specs.declared.leaves.Halt.TheVariants as Halt-of
+use Rattle.engine.specs.declared.setting.Setting.{Setting as Given}
+use Rattle.engine.specs.Leaves.{WalkedFrom, Onto, Walked, answer}
 use Rattle.engine.specs.Lines.{line_of}
 use Rattle.engine.specs.Spine.{Fork, ending_of}
 use Rattle.engine.specs.StackMatch.{match_of}
@@ -42,7 +42,7 @@ use Rattle.engine.proofs.Walks.{Walking, forked}
 five : (k : ℕ) → 1 ≤ k → k ≤ 5 → (k ≡ 1 → ⊥) → (k ≡ 2 → ⊥) → (k ≡ 3 → ⊥) → (k ≡ 4 → ⊥) → k ≡ 5
 five k lo hi a b c d = omega arith
 
-at_end_moves : (b : Bool) (m : ParserState) → Pest.moved (if b then some m.position else none) m ≡ (if b then Ok m else Err m)
+at_end_moves : (b : Bool) (m : ParserState) → Pest.moved (if b then Some m.position else None) m ≡ (if b then Ok m else Err m)
 at_end_moves true m = refl
 at_end_moves false m = refl
 
@@ -60,20 +60,20 @@ module _ (ns : List ℤ) (literals text : List ℕ) (capacity d : ℕ) (w : Acce
     pub leaf_2 : n.kind ≡ 2 → Fit (setting_of ns literals text capacity) m → (y : Ending ParserState) → y ≡ Pest.moved (Position.match_insensitive text L p) m → y ≡ At m
     leaf_2 q f y z = end_2 ns literals text capacity d w l i n e q m f y (z ∙ ap (λ (k : ℕ). Pest.moved (Position.match_insensitive text L k) m) (sym x))
 
-    pub leaf_3 : n.kind ≡ 3 → (r : Matched) → r ≡ matched (Position.match_range text n.a n.b p) → Pest.moved (match_of r) m ≡ At m
+    pub leaf_3 : n.kind ≡ 3 → (r : Option BytePosition) → r ≡ matched (Position.match_range text n.a n.b p) → Pest.moved (match_of r) m ≡ At m
     leaf_3 q r z =
         end_3 ns literals text capacity d w l i n e q m (Pest.moved (match_of r) m)
         (moved_by (Position.match_range text n.a n.b p) r m z ∙ ap (λ (k : ℕ). Pest.moved (Position.match_range text n.a n.b k) m) (sym x))
 
-    pub leaf_4 : n.kind ≡ 4 → Fit (setting_of ns literals text capacity) m → (r : Matched) → r ≡ matched (Position.skip text n.a p) → Pest.moved (match_of r) m ≡ At m
+    pub leaf_4 : n.kind ≡ 4 → Fit (setting_of ns literals text capacity) m → (r : Option BytePosition) → r ≡ matched (Position.skip text n.a p) → Pest.moved (match_of r) m ≡ At m
     leaf_4 q f r z =
         end_4 ns literals text capacity d w l i n e q m f (Pest.moved (match_of r) m)
         (moved_by (Position.skip text n.a p) r m z ∙ ap (λ (k : ℕ). Pest.moved (Position.skip text n.a k) m) (sym x))
 
-    pub leaf_5 : n.kind ≡ 5 → (r : Matched) → match_of r ≡ (if Position.at_end text p then some p else none) → Pest.moved (match_of r) m ≡ At m
+    pub leaf_5 : n.kind ≡ 5 → (r : Option BytePosition) → match_of r ≡ (if Position.at_end text p then Some p else None) → Pest.moved (match_of r) m ≡ At m
     leaf_5 q r z =
         end_5 ns literals text capacity d w l i n e q m (Pest.moved (match_of r) m)
-        (ap (λ (o : Option ℕ). Pest.moved o m) (z ∙ ap (λ (k : ℕ). if Position.at_end text k then some k else none) (sym x)) ∙ at_end_moves (Position.at_end text m.position) m)
+        (ap (λ (o : Option ℕ). Pest.moved o m) (z ∙ ap (λ (k : ℕ). if Position.at_end text k then Some k else None) (sym x)) ∙ at_end_moves (Position.at_end text m.position) m)
 
   -- The kind that is left; `rest` as the code's match gives it.
   pub fifth : kind_at ns l ≤ 5 → (((Unit {0} × (n.kind ≡ 1 → ⊥)) × (n.kind ≡ 2 → ⊥)) × (n.kind ≡ 3 → ⊥)) × (n.kind ≡ 4 → ⊥) → n.kind ≡ 5
@@ -99,26 +99,17 @@ first_onto ns literals text capacity d line m p i f x = record {
 }
 
 -- A walk from where another one stands.
-pub walked_on : (ns : List ℤ) (literals text : List ℕ) (capacity d line : ℕ) (m : ParserState) (at p : ℕ) → Onto ns literals text capacity d line m at p → (r : Halt) → Walked ns literals text capacity d at (set_position p m) r → Walked ns literals text capacity d line m r
-walked_on ns literals text capacity d line m at p o r w = record {
-  going = λ h. let v = w.going h in record { here = v.here; upto = omega (arith, v.upto, o.upto); fit = v.fit; runs = v.runs ∙ o.runs };
-  ended = λ h. w.ended h ∙ o.runs;
-}
-
--- The two answers of a walk: a line that it leaves to others, and an ending.
-module _ (ns : List ℤ) (literals text : List ℕ) (capacity d line : ℕ) (m : ParserState) (at : ℕ) (p : BytePosition) (r : Halt) where
-  pub walked_halted : r ≡ record { line = at; position = p; good = false; done = false } → Onto ns literals text capacity d line m at p.0 → Walked ns literals text capacity d line m r
-  walked_halted e o = subst (Walked ns literals text capacity d line m) (sym e) (record { going = λ _. o; ended = λ h. absurd (false≢true h) })
-
-  pub walked_done : (good : Bool) → r ≡ record { line = at; position = p; good = good; done = true } → answer good (set_position p.0 m) ≡ evaluated ns literals text capacity d (tree_at ns literals line) m → Walked ns literals text capacity d line m r
-  walked_done good e x = subst (Walked ns literals text capacity d line m) (sym e) (record { going = λ h. absurd (true≢false h); ended = λ _. x })
+pub walked_on : (ns : List ℤ) (literals text : List ℕ) (capacity d line : ℕ) (m : ParserState) (at p : ℕ) → Onto ns literals text capacity d line m at p
+    → (q : BytePosition) (h : Halt) → Walked ns literals text capacity d at (set_position p m) q h → Walked ns literals text capacity d line m q h
+walked_on ns literals text capacity d line m at p o q (Halt-of.At l) w = record { here = w.here; upto = omega (arith, w.upto, o.upto); fit = w.fit; runs = w.runs ∙ o.runs }
+walked_on ns literals text capacity d line m at p o q (Halt-of.Done good) w = w ∙ o.runs
 
 -- What a match says of a state's ending.
-pub last_ok : (r : Matched) (m : ParserState) (q : BytePosition) (x : Ending ParserState) → Pest.moved (match_of r) m ≡ x → r ≡ Matched-of.At q → Ok (set_position q.0 m) ≡ x
-last_ok r m q x h e = ap (λ (y : Matched). Pest.moved (match_of y) m) (sym e) ∙ h
+pub last_ok : (r : Option BytePosition) (m : ParserState) (q : BytePosition) (x : Ending ParserState) → Pest.moved (match_of r) m ≡ x → r ≡ Some q → Ok (set_position q.0 m) ≡ x
+last_ok r m q x h e = ap (λ (y : Option BytePosition). Pest.moved (match_of y) m) (sym e) ∙ h
 
-pub last_err : (r : Matched) (m : ParserState) (p : ℕ) (x : Ending ParserState) → m.position ≡ p → Pest.moved (match_of r) m ≡ x → r ≡ Matched-of.Failed → Err (set_position p m) ≡ x
-last_err r m p x z h e = ap Err (same_place m p z) ∙ ap (λ (y : Matched). Pest.moved (match_of y) m) (sym e) ∙ h
+pub last_err : (r : Option BytePosition) (m : ParserState) (p : ℕ) (x : Ending ParserState) → m.position ≡ p → Pest.moved (match_of r) m ≡ x → r ≡ None → Err (set_position p m) ≡ x
+last_err r m p x z h e = ap Err (same_place m p z) ∙ ap (λ (y : Option BytePosition). Pest.moved (match_of y) m) (sym e) ∙ h
 
 go_ok : (k : ℕ) → k ≡ 6 → (m : ParserState) → go m ≡ going k (Ok m)
 unfolding going
@@ -205,3 +196,16 @@ walk_on ns literals text capacity d line tokens₀ scratch₀ m₀ tokens scratc
 pub answers : (a b : List ℕ) (s : Code.ParserState) (good : Bool) → view_end a b s (ending_of good) ≡ answer good (view a b s)
 answers a b s true = refl
 answers a b s false = refl
+
+-- Where the walk from the line `at` and the state m ended: done, or at a line that it leaves to others.
+module _ (g : Given) (d at : ℕ) (m : ParserState) (r : BytePosition × Halt) (w : WalkedFrom g d at m r) where
+  pub at_done : (good : Bool) → r.1 ≡ Halt-of.Done good → answer good (set_position r.0.0 m) ≡ evaluates g d at m
+  at_done good e = subst (Walked g.nodes.now g.literals.now g.text.now g.room d at m r.0) e w
+
+  pub at_fork : (l : ℕ) → r.1 ≡ Halt-of.At l → {line : ℕ} {tokens₀ scratch₀ : List ℕ} {m₀ : ParserState} {tokens scratch : List ℕ}
+      → Walking g.nodes.now g.literals.now g.text.now g.room d line tokens₀ scratch₀ m₀ tokens scratch at m
+      → Walking g.nodes.now g.literals.now g.text.now g.room d line tokens₀ scratch₀ m₀ tokens scratch l (set_position r.0.0 m)
+  at_fork l e v = walk_on _ _ _ _ _ _ _ _ _ _ _ _ _ v l r.0.0 (subst (Walked g.nodes.now g.literals.now g.text.now g.room d at m r.0) e w)
+
+  pub no_higher : (l : ℕ) → r.1 ≡ Halt-of.At l → l ≤ at
+  no_higher l e = (subst (Walked g.nodes.now g.literals.now g.text.now g.room d at m r.0) e w).upto

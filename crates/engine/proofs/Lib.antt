@@ -1,4 +1,3 @@
-pub mod StateFields
 pub mod Regions
 pub mod Moves
 pub mod StackSteps
@@ -22,6 +21,7 @@ pub mod Steps
 pub mod Turns
 pub mod LineFields
 pub mod LineSteps
+pub mod LetIn
 pub mod TerminalSteps
 pub mod Walks
 pub mod LeafSteps

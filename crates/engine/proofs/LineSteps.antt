@@ -7,16 +7,12 @@ use mathlib.Core.Logic.{◌⊎◌, inl, inr}
 use mathlib.Core.List.{List}
 use Prim.Native.Nat.{ℕ, zero, suc, ◌+◌, ◌*◌, ◌≤◌}
 use native.Mathlib.Omega.{arith}
-use native.Mathlib.Decide.{dec_le}
 use lib.Dec.{eqb}
 use lib.IntN.{ℤ}
 use lib.ListN.{length}
 use borrow.Author.Tests.{eq-eqb, ne_eqb}
-use Rattle.matching.specs.Utf8.{within}
-use Rattle.matching.proofs.Lead as Lead
 use Rattle.engine.specs.declared.node.Line as Read
 use Rattle.reading.specs.declared.parser_state.Atomicity.{Atomicity}
-use Rattle.reading.specs.declared.parser_state.Atomicity.TheVariants.{NonAtomic}
 use Rattle.reading.specs.Ending.{Ending}
 use Rattle.reading.specs.Grammar as Grammar
 use Rattle.reading.specs.Grammar.{Exp, node_at, natural, kind_at, tree_at, atomicity_of}
@@ -25,7 +21,7 @@ use Rattle.reading.specs.Pest as Pest
 use Rattle.reading.specs.Pest.{ParserState}
 use Rattle.engine.specs.Lines.{line_of}
 use Rattle.engine.specs.Spine.{Fork}
-use Rattle.engine.specs.Evaluation.{setting_of, Line, evaluated, opens_call}
+use Rattle.engine.specs.Evaluation.{setting_of, Line, evaluated}
 use Rattle.reading.proofs.Accepted.{Accepted, Lower, Fits, RuleLine, facts, tree_kind}
 
 -- ── Kinds ──
@@ -161,32 +157,3 @@ module _ (ns : List ℤ) (literals : List ℕ) (w : Accepted ns literals) (l : �
         go : (n.kind ≡ 8) ⊎ (n.kind ≡ 20) → r ≡ evaluated ns literals text capacity d (tree_at ns literals l) m
         go (inl q) = at l (itself q)
         go (inr q) = call_runs text capacity d m r (kind_of ns literals w l i n e 20 q) (at n.a (named q))
-
-  -- Where all kinds that open a call are excluded, as the code's match has it, none is opened.
-  pub none_opened : (((((((Unit {0} × ((n.kind ≡ 8) ⊎ (n.kind ≡ 20) → ⊥)) × (n.kind ≡ 9 → ⊥)) × (n.kind ≡ 10 → ⊥)) × (n.kind ≡ 11 → ⊥)) × (n.kind ≡ 12 → ⊥)) × (n.kind ≡ 13 → ⊥)) × (n.kind ≡ 14 → ⊥)) × (n.kind ≡ 18 → ⊥)
-      → opens_call (kind_at ns l) ≡ false
-  none_opened r = ap (λ (x : Read.Line). opens_call x.kind) (sym e) ∙ go (dec_le 8 n.kind) (dec_le n.kind 14)
-    where
-      k : ℕ
-      k = n.kind
-
-      no_rule : (k ≡ 8) ⊎ (k ≡ 20) → ⊥
-      no_rule = r.0.0.0.0.0.0.0.1
-
-      rest : within 8 14 k ≡ false → opens_call k ≡ false
-      rest f = rw (f, ne_eqb k 18 r.1, ne_eqb k 20 (λ q. no_rule (inr q)))
-
-      mid : 8 ≤ k → k ≤ 14 → Dec (k ≤ 10) → Dec (k ≤ 13) → ⊥
-      mid lo hi (yes h) q = three 8 k lo h (λ x. no_rule (inl x)) r.0.0.0.0.0.0.1 r.0.0.0.0.0.1
-      mid lo hi (no h) (yes q) = three 11 k (below k h) q r.0.0.0.0.1 r.0.0.0.1 r.0.0.1
-      mid lo hi (no h) (no q) = r.0.1 (last k hi q)
-
-      go : Dec (8 ≤ k) → Dec (k ≤ 14) → opens_call k ≡ false
-      go (no a) b = rest (Lead.below 8 14 k (omega arith))
-      go (yes a) (no b) = rest (Lead.above 8 14 k (omega arith))
-      go (yes a) (yes b) = absurd (mid a b (dec_le k 10) (dec_le k 13))
-
-pub non_atomic : (b : ℕ) → (b ≡ 0 → ⊥) → (b ≡ 1 → ⊥) → NonAtomic ≡ atomicity_of b
-non_atomic zero x y = absurd (x refl)
-non_atomic (suc zero) x y = absurd (y refl)
-non_atomic (suc (suc b)) x y = refl

@@ -3,7 +3,7 @@ use Rattle.std.specs.Prelude.{if◌then◌else◌}
 use mathlib.Core.Path.{◌≡◌, refl, ap}
 use mathlib.Core.Bool.{Bool, true, false, ◌&&◌, cond}
 use mathlib.Core.List.{List, [], ◌∷◌}
-use mathlib.Core.Option.{none, some}
+use Rattle.std.specs.Prelude.{None, Some}
 use Prim.Native.Nat.{ℕ, ◌+◌, ◌≤◌}
 use native.Mathlib.Omega.{arith}
 use native.Mathlib.Decide.{dec_le}
@@ -19,7 +19,7 @@ same_starts same [] x h = refl
 same_starts same (a ∷ l) [] h = absurd (omega arith)
 same_starts same (a ∷ l) (b ∷ x) h = ap (λ (t : Bool). same a b && t) (same_starts same l x (omega arith))
 
-if_cond : (b : Bool) (n : ℕ) → (if b then some n else none) ≡ cond b (some n) none
+if_cond : (b : Bool) (n : ℕ) → (if b then Some n else None) ≡ cond b (Some n) None
 if_cond true n = refl
 if_cond false n = refl
 
@@ -34,6 +34,6 @@ module _ (input l : List ℕ) (p : ℕ) where
           (if_cond (starts_by eqb l (drop p input)) (p + length l))
       go (no h) = rw (lt-leb (p + length l) (length input) (omega arith)) (short (dec_le p (length input)))
         where
-          short : Dec (p ≤ length input) → none ≡ match_string input l p
+          short : Dec (p ≤ length input) → None ≡ match_string input l p
           short (yes g) = rw (le-leb p (length input) g, starts_short eqb l (drop p input) (omega (arith, length-drop p input)))
           short (no g) = rw (lt-leb p (length input) (omega arith))

@@ -4,20 +4,19 @@ use Rattle.std.specs.Prelude.{if◌then◌else◌}
 use mathlib.Core.Path.{◌≡◌, refl, sym, ap, ap₂, ◌∙◌, subst}
 use mathlib.Core.Bool.{Bool, true, false, not}
 use mathlib.Core.List.{List, [], ◌∷◌}
-use mathlib.Core.Option.{Option, none, some}
+use Rattle.std.specs.Prelude.{Option, None, Some, Result}
 use Prim.Native.Nat.{ℕ, suc, ◌+◌, ◌-◌, ◌≤◌, ◌<◌}
 use native.Mathlib.Omega.{arith}
-use lib.ListN.{length, get_or, drop, length-drop}
+use lib.ListN.{length, get_or, drop}
 use lib.Seq.{get_or-drop}
 use lib.Dec.{eqb, ltb, leb}
-use borrow.Author.Tests.{ltb-false, leb-true, leb-false, not-true, not-false, le-ltb, eq-eqb, ne_eqb, le-leb, lt-leb}
+use borrow.Author.Tests.{ltb-false, leb-true, not-false, le-ltb, ne_eqb, le-leb}
 use Rattle.matching.specs.declared.span.Span as Code
 use Rattle.matching.specs.Position.{starts_by, match_by, match_string, bytes_of}
-use Rattle.matching.proofs.Starts.{starts_short, From, from_start, from_more, from_fails, from_end}
+use Rattle.matching.proofs.Starts.{From, from_fails, from_end}
 use Rattle.reading.specs.Pest as Pest
 use Rattle.engine.specs.declared.stack.Stack.{Stack}
-use Rattle.engine.specs.declared.stack.Popped.{Popped}
-use Rattle.engine.specs.declared.stack.Popped.TheVariants.{Got, Empty, Full}
+use Rattle.engine.specs.declared.stack.Unpopped.{Unpopped}
 use Rattle.reading.specs.declared.parser_state.Cause.TheVariants.{StackFull}
 use Rattle.reading.specs.Ending.{Ending, Ok, Err, Stop, stop_if, Span, Checkpoint}
 use Rattle.reading.specs.Reading.{debt}
@@ -27,7 +26,7 @@ use Rattle.engine.specs.Bounded.{Take, got, taken, taken_from, take_of}
 use Rattle.reading.specs.Sound.{Sound}
 use Rattle.engine.specs.StackReady.{StackReady, OutsideStack}
 use Rattle.reading.proofs.StackLaws.{pest}
-use Rattle.engine.proofs.Regions.{pairs_length, stack_refl, stack_trans}
+use Rattle.engine.proofs.Regions.{pairs_length, stack_trans}
 use Rattle.reading.proofs.SoundLaws.{sound_pop, lengths_pop}
 use Rattle.engine.proofs.ReadyLaws.{ready_after}
 use Rattle.engine.proofs.Matching.{match_string_same}
@@ -92,12 +91,12 @@ module _ (text : List ℕ) (v : Pest.Stack) (line p : ℕ) (m : ParserState) whe
       go : (c : List Span) → (c ≡ [] → ⊥) → taken_from c v ≡ Take.full → Stop (StackFull line) ≡ stack_match_pop text true line c p (set_stack v m)
       go [] n e = absurd (n refl)
       go (y ∷ rest) n e = pick y rest (ltb 1024 (debt (pop y rest v).lengths))
-          (λ _. elim (Pest.match_string text (as_str text y) p) [ none ↦ Err (set_stack (pop y rest v) m) | some q ↦ stack_match_pop text true line rest q (set_stack (pop y rest v) m) ]) e
+          (λ _. elim (Pest.match_string text (as_str text y) p) [ None ↦ Err (set_stack (pop y rest v) m) | Some q ↦ stack_match_pop text true line rest q (set_stack (pop y rest v) m) ]) e
 
   module _ (w : Pest.Stack) (x : Span) (t : Took v w x) where
     -- pest's step at a pop that the debt allows
     step : stack_match_pop text true line v.cache p (set_stack v m)
-        ≡ elim (Pest.match_string text (as_str text x) p) [ none ↦ Err (set_stack w m) | some q ↦ stack_match_pop text true line w.cache q (set_stack w m) ]
+        ≡ elim (Pest.match_string text (as_str text x) p) [ None ↦ Err (set_stack w m) | Some q ↦ stack_match_pop text true line w.cache q (set_stack w m) ]
     step =
         let d : ltb 1024 (debt (pop x w.cache v).lengths) ≡ false = subst (λ (u : Pest.Stack). ltb 1024 (debt u.lengths) ≡ false) t.is (le-ltb 1024 (debt w.lengths) t.owing) in
         ap (λ (c : List Span). stack_match_pop text true line c p (set_stack v m)) t.cache
@@ -105,73 +104,44 @@ module _ (text : List ℕ) (v : Pest.Stack) (line p : ℕ) (m : ParserState) whe
         ∙ ap (λ (u : Pest.Stack). after u) (sym t.is)
       where
         after : Pest.Stack → Ending ParserState
-        after u = elim (Pest.match_string text (as_str text x) p) [ none ↦ Err (set_stack u m) | some q ↦ stack_match_pop text true line w.cache q (set_stack u m) ]
+        after u = elim (Pest.match_string text (as_str text x) p) [ None ↦ Err (set_stack u m) | Some q ↦ stack_match_pop text true line w.cache q (set_stack u m) ]
 
         pick : (b : Bool) → b ≡ false → stop_if b (StackFull line) (λ _. after (pop x w.cache v)) ≡ after (pop x w.cache v)
         pick b e = rw e
 
-    pub step_some : (q : ℕ) → Pest.match_string text (as_str text x) p ≡ some q
+    pub step_some : (q : ℕ) → Pest.match_string text (as_str text x) p ≡ Some q
         → stack_match_pop text true line w.cache q (set_stack w m) ≡ stack_match_pop text true line v.cache p (set_stack v m)
     step_some q e = sym (step ∙ go (Pest.match_string text (as_str text x) p) e)
       where
-        go : (o : Option ℕ) → o ≡ some q
-            → ◌≡◌ {A = Ending ParserState} (elim o [ none ↦ Err (set_stack w m) | some r ↦ stack_match_pop text true line w.cache r (set_stack w m) ]) (stack_match_pop text true line w.cache q (set_stack w m))
+        go : (o : Option ℕ) → o ≡ Some q
+            → ◌≡◌ {A = Ending ParserState} (elim o [ None ↦ Err (set_stack w m) | Some r ↦ stack_match_pop text true line w.cache r (set_stack w m) ]) (stack_match_pop text true line w.cache q (set_stack w m))
         go o e = rw e
 
-    pub step_none : Pest.match_string text (as_str text x) p ≡ none → Err (set_stack w m) ≡ stack_match_pop text true line v.cache p (set_stack v m)
+    pub step_none : Pest.match_string text (as_str text x) p ≡ None → Err (set_stack w m) ≡ stack_match_pop text true line v.cache p (set_stack v m)
     step_none e = sym (step ∙ go (Pest.match_string text (as_str text x) p) e)
       where
-        go : (o : Option ℕ) → o ≡ none → ◌≡◌ {A = Ending ParserState} (elim o [ none ↦ Err (set_stack w m) | some r ↦ stack_match_pop text true line w.cache r (set_stack w m) ]) (Err (set_stack w m))
+        go : (o : Option ℕ) → o ≡ None → ◌≡◌ {A = Ending ParserState} (elim o [ None ↦ Err (set_stack w m) | Some r ↦ stack_match_pop text true line w.cache r (set_stack w m) ]) (Err (set_stack w m))
         go o e = rw e
 
 -- ── The bytes of one entry, compared ──
--- Whether n bytes stand at p, tested without a sum.
-pub room_past : (p n size : ℕ) → size < p → false ≡ leb (p + n) size
-room_past p n size h = sym (lt-leb (p + n) size (omega (arith, h)))
-
-pub room_is : (p n size : ℕ) → p ≤ size → leb n (size - p) ≡ leb (p + n) size
-room_is p n size h = go (leb n (size - p)) refl
-  where
-    go : (b : Bool) → leb n (size - p) ≡ b → b ≡ leb (p + n) size
-    go true e = sym (le-leb (p + n) size (omega (arith, h, leb-true n (size - p) e)))
-    go false e = sym (lt-leb (p + n) size (omega (arith, h, leb-false n (size - p) e)))
-
 -- A loop over `bytes`, at the position p of the text.
 module _ (text bytes : List ℕ) (p : ℕ) where
   module _ (room : Bool) (e : room ≡ leb (p + length bytes) (length text)) where
-    pub bytes_short : not room ≡ true → match_string text bytes p ≡ none
-    unfolding match_by
-    bytes_short h = go (leb p (length text)) refl
-      where
-        go : (b : Bool) → leb p (length text) ≡ b → match_string text bytes p ≡ none
-        go false l = rw l
-        go true l = rw (l, starts_short eqb bytes (drop p text) (omega (arith, length-drop p text, leb-true p (length text) l, leb-false (p + length bytes) (length text) (sym e ∙ not-true room h))))
-
     pub bytes_fit : not room ≡ false → p + length bytes ≤ length text
     bytes_fit h = leb-true (p + length bytes) (length text) (sym e ∙ not-false room h)
 
-  pub bytes_start : p + length bytes ≤ length text → From eqb bytes (drop p text) 0
-  bytes_start l = from_start eqb bytes (drop p text) (omega (arith, l, length-drop p text))
-
   module _ (i : ℕ) (f : From eqb bytes (drop p text) i) where
-    pub bytes_more : i < length bytes → get_or text (p + i) 0 ≡ get_or bytes i 0 → From eqb bytes (drop p text) (i + 1)
-    bytes_more h e = from_more eqb bytes (drop p text) i f h (eq-eqb _ _ (sym e ∙ sym (get_or-drop p text i 0)))
-
-    pub bytes_differ : p + length bytes ≤ length text → i < length bytes → (get_or text (p + i) 0 ≡ get_or bytes i 0 → ⊥) → match_string text bytes p ≡ none
+    pub bytes_differ : p + length bytes ≤ length text → i < length bytes → (get_or text (p + i) 0 ≡ get_or bytes i 0 → ⊥) → match_string text bytes p ≡ None
     unfolding match_by
     bytes_differ l h n =
         let t : false ≡ starts_by eqb bytes (drop p text) = from_fails eqb bytes (drop p text) i f h (ne_eqb _ _ (λ e. n (sym (get_or-drop p text i 0) ∙ sym e))) in
         rw (le-leb p (length text) (omega (arith, l)), ← t)
 
-    pub bytes_all : p + length bytes ≤ length text → length bytes ≤ i → match_string text bytes p ≡ some (p + length bytes)
+    pub bytes_all : p + length bytes ≤ length text → length bytes ≤ i → match_string text bytes p ≡ Some (p + length bytes)
     unfolding match_by
     bytes_all l h =
         let t : true ≡ starts_by eqb bytes (drop p text) = from_end eqb bytes (drop p text) i f h in
         rw (le-leb p (length text) (omega (arith, l)), ← t)
-
-    -- What stands at p + i is in the text.
-    pub bytes_inside : i < length bytes → p + i < length text
-    bytes_inside h = omega (arith, length-drop p text, f.room)
 
 -- ── The loop over the entries ──
 -- From scratch a, the stack s and the position p on, pest's answer is the one from the start on.
@@ -181,28 +151,19 @@ pub record Going (text a₀ : List ℕ) (s₀ : Stack) (p₀ : ℕ) (a : List �
   pub rest : (line : ℕ) (m : ParserState)
       → stack_match_pop text true line (stack_of a s).cache p (set_stack (stack_of a s) m) ≡ stack_match_pop text true line (stack_of a₀ s₀).cache p₀ (set_stack (stack_of a₀ s₀) m)
 
-pub going_start : (text a : List ℕ) (s : Stack) (p : ℕ) → StackReady a s → Going text a s p a s p
-going_start text a s p r = record { ready = r; frame = stack_refl a; rest = λ line m. refl }
-
--- Where the ways out of the loop meet: whether all matched, and scratch, the stack and the position then.
-pub record Met (text a₀ : List ℕ) (s₀ : Stack) (p₀ : ℕ) (good : Bool) (a : List ℕ) (s : Stack) (p : ℕ) : Type 0 where
-  pub frame : OutsideStack a₀ a
-  pub ends : (line : ℕ) (m : ParserState)
-      → (if good then Ok (set_position p (set_stack (stack_of a s) m)) else Err (set_stack (stack_of a s) m)) ≡ stack_match_pop text true line (stack_of a₀ s₀).cache p₀ (set_stack (stack_of a₀ s₀) m)
-
 module _ {text a₀ : List ℕ} {s₀ : Stack} {p₀ : ℕ} {a : List ℕ} {s : Stack} {p : ℕ} (g : Going text a₀ s₀ p₀ a s p) where
-  pub met_empty : {good : Bool} {a' : List ℕ} {s' : Stack} → s.height ≡ 0 → a' ≡ a → s' ≡ s → good ≡ true → Met text a₀ s₀ p₀ good a' s' p
+  -- No entry is left: all matched.
+  pub going_empty : s.height ≡ 0
+      → (line : ℕ) (m : ParserState) → Ok (set_position p (set_stack (stack_of a s) m)) ≡ stack_match_pop text true line (stack_of a₀ s₀).cache p₀ (set_stack (stack_of a₀ s₀) m)
   unfolding pairs
-  met_empty h ea es eg =
-      let z : (stack_of a s).cache ≡ [] = rw h in
-      rw (ea, es, eg) (record { frame = g.frame; ends = λ line m. step_empty text (stack_of a s) line p m z ∙ g.rest line m })
+  going_empty h line m = let z : (stack_of a s).cache ≡ [] = rw h in step_empty text (stack_of a s) line p m z ∙ g.rest line m
 
-  module _ (hz : s.height ≡ 0 → ⊥) {a' : List ℕ} (r : Popped) (e : (take_of a' r ≡ taken (stack_of a s)) × OutsideStack a a') where
+  module _ (hz : s.height ≡ 0 → ⊥) {a' : List ℕ} (r : Result (Stack × Code.Span) Unpopped) (e : (take_of a' r ≡ taken (stack_of a s)) × OutsideStack a a') where
     some_entry : (stack_of a s).cache ≡ [] → ⊥
     some_entry z = hz (sym (pairs_length span a 0 s.height) ∙ ap length z)
 
     -- The pop found no room.
-    pub going_full : ((u : Stack) (x : Code.Span) → r ≡ Got u x → ⊥)
+    pub going_full : ((y : Stack × Code.Span) → r ≡ Result.Ok y → ⊥)
         → (line : ℕ) (m : ParserState) → Stop (StackFull line) ≡ stack_match_pop text true line (stack_of a₀ s₀).cache p₀ (set_stack (stack_of a₀ s₀) m)
     going_full n line m = step_full text (stack_of a s) line p m some_entry (go r n e.0) ∙ g.rest line m
       where
@@ -214,12 +175,12 @@ module _ {text a₀ : List ℕ} {s₀ : Stack} {p₀ : ℕ} {a : List ℕ} {s : 
             pick true v q = let z : ◌≡◌ {A = ℕ} 0 1 = cc in omega arith
             pick false v q = let z : ◌≡◌ {A = ℕ} 0 1 = cc in omega arith
 
-        go : (r : Popped) → ((u : Stack) (x : Code.Span) → r ≡ Got u x → ⊥) → take_of a' r ≡ taken (stack_of a s) → taken (stack_of a s) ≡ Take.full
-        go (Got u x) n q = absurd (n u x refl)
-        go Empty n q = absurd (not_empty (stack_of a s).cache some_entry q)
-        go Full n q = sym q
+        go : (r : Result (Stack × Code.Span) Unpopped) → ((y : Stack × Code.Span) → r ≡ Result.Ok y → ⊥) → take_of a' r ≡ taken (stack_of a s) → taken (stack_of a s) ≡ Take.full
+        go (Result.Ok y) n q = absurd (n y refl)
+        go (Result.Err Unpopped.Empty) n q = absurd (not_empty (stack_of a s).cache some_entry q)
+        go (Result.Err Unpopped.Full) n q = sym q
 
-    module _ {u : Stack} {x : Code.Span} (f : r ≡ Got u x) where
+    module _ {u : Stack} {x : Code.Span} (f : r ≡ Result.Ok (u, x)) where
       took_here : Took (stack_of a s) (stack_of a' u) (span x.start.0 x.end.0)
       took_here = took (stack_of a s) (stack_of a' u) (span x.start.0 x.end.0) (sym (rw f at e.0))
 
@@ -234,7 +195,7 @@ module _ {text a₀ : List ℕ} {s₀ : Stack} {p₀ : ℕ} {a : List ℕ} {s : 
 
       module _ {bytes : List ℕ} (eb : bytes ≡ bytes_of text x.start.0 x.end.0) where
         -- The entry matched.
-        pub going_more : match_string text bytes p ≡ some (p + length bytes) → Going text a₀ s₀ p₀ a' u (p + length bytes)
+        pub going_more : match_string text bytes p ≡ Some (p + length bytes) → Going text a₀ s₀ p₀ a' u (p + length bytes)
         going_more h = record {
           ready = ready_here;
           frame = stack_trans g.frame e.1;
@@ -245,19 +206,9 @@ module _ {text a₀ : List ℕ} {s₀ : Stack} {p₀ : ℕ} {a : List ℕ} {s : 
         }
 
         -- It did not: popped entries are gone.
-        pub met_failed : {good : Bool} {a'' : List ℕ} {s'' : Stack} → match_string text bytes p ≡ none → a'' ≡ a' → s'' ≡ u → good ≡ false → Met text a₀ s₀ p₀ good a'' s'' p
-        met_failed h ea es eg =
-            rw (ea, es, eg) (record {
-              frame = stack_trans g.frame e.1;
-              ends = λ line m.
-                  step_none text (stack_of a s) line p m (stack_of a' u) (span x.start.0 x.end.0) took_here
-                  (ap (λ (b : List ℕ). Pest.match_string text b p) (sym eb) ∙ match_string_same text bytes p ∙ h)
-                  ∙ g.rest line m;
-            })
-
-module _ {text a₀ : List ℕ} {s₀ : Stack} {p₀ : ℕ} {good : Bool} {a : List ℕ} {s : Stack} {p : ℕ} (w : Met text a₀ s₀ p₀ good a s p) where
-  pub met_good : good ≡ true → (line : ℕ) (m : ParserState) → Ok (set_position p (set_stack (stack_of a s) m)) ≡ stack_match_pop text true line (stack_of a₀ s₀).cache p₀ (set_stack (stack_of a₀ s₀) m)
-  met_good e line m = sym (rw e) ∙ w.ends line m
-
-  pub met_bad : good ≡ false → (line : ℕ) (m : ParserState) → Err (set_stack (stack_of a s) m) ≡ stack_match_pop text true line (stack_of a₀ s₀).cache p₀ (set_stack (stack_of a₀ s₀) m)
-  met_bad e line m = sym (rw e) ∙ w.ends line m
+        pub going_failed : match_string text bytes p ≡ None
+            → (line : ℕ) (m : ParserState) → Err (set_stack (stack_of a' u) m) ≡ stack_match_pop text true line (stack_of a₀ s₀).cache p₀ (set_stack (stack_of a₀ s₀) m)
+        going_failed h line m =
+            step_none text (stack_of a s) line p m (stack_of a' u) (span x.start.0 x.end.0) took_here
+            (ap (λ (b : List ℕ). Pest.match_string text b p) (sym eb) ∙ match_string_same text bytes p ∙ h)
+            ∙ g.rest line m

@@ -8,14 +8,16 @@ use lib.ListN.{length}
 use lib.Dec.{ltb}
 use Rattle.reading.specs.declared.parser_state.Cause.TheVariants.{AttemptsFull}
 use Rattle.engine.specs.declared.attempts.Noted.{Noted}
-use Rattle.engine.specs.Fields as Code
+use Rattle.engine.specs.declared.rule.Begun.{Begun}
+use Rattle.engine.specs.declared.parser_state.ParserState as Code
 use Rattle.reading.specs.declared.parser_state.Ending as Code·ending
 use Rattle.reading.specs.declared.parser_state.Ending.TheVariants as Code·of
 use Rattle.reading.specs.Ending.{Ending, Ok, Err, Stop, on_ok, stop_if, is_negative, is_atomic}
 use Rattle.reading.specs.Grammar.{end_of_input}
 use Rattle.reading.specs.Reading.{Setting, most_attempts}
-use Rattle.reading.specs.Pest.{ParserState, tracking, track, close_rule, rule_end}
+use Rattle.reading.specs.Pest.{ParserState, tracking, track, close_rule}
 use Rattle.engine.specs.Areas.{view, view_end}
+use Rattle.engine.specs.Ends.{rule_ended}
 use Rattle.engine.specs.Rule.{dropped, Recording}
 use Rattle.engine.proofs.AttemptLaws.{track_is}
 use Rattle.engine.proofs.RuleLaws.{tracking_then}
@@ -43,35 +45,39 @@ module _ (g : Setting) (due : Bool) (line r p : ℕ) (n : Noted) (m : ParserStat
       go true true e = refl
       go true false e = kept e (ltb most_attempts (length t.pos_attempts) || ltb most_attempts (length t.neg_attempts))
 
-  -- ── a rule, after its tracking, which the code answered with y, known to be z ──
-  module _ (tokens b : List ℕ) (s : Code.ParserState) (y z : Code·ending.Ending) (same : y ≡ z)
-      (h : view_end tokens b s y ≡ tracking g true due line r p n.positives n.negatives n.total m (λ (t : ParserState). Ok t)) where
-    then_on : (k : ParserState → Ending ParserState) → on_ok (view_end tokens b s z) k ≡ tracking g true due line r p n.positives n.negatives n.total m k
-    then_on k =
-        ap (λ (x : Ending ParserState). on_ok x k) (sym (ap (view_end tokens b s) same) ∙ h)
-        ∙ sym (tracking_then g line r due p n.positives n.negatives n.total m k)
+-- ── a begun rule, after its tracking, which the code answered with y, known to be z ──
+abbrev tracked : Setting → (due : Bool) → Begun → ParserState → (ParserState → Ending ParserState) → Ending ParserState
+tracked g due o m k = tracking g true due o.line o.rule o.position.0 o.noted.positives o.noted.negatives o.noted.total m k
 
-    pub after_ok : (i : ℕ) (e : Ending ParserState) → due ≡ is_negative m.lookahead → e ≡ on_ok (view_end tokens b s z) (λ t. close_rule g true line r i t)
-        → e ≡ rule_end g true line r p i n.positives n.negatives n.total (Ok m)
-    after_ok i e d q =
-        q ∙ then_on (λ t. close_rule g true line r i t)
-        ∙ ap (λ (c : Bool). tracking g true c line r p n.positives n.negatives n.total m (λ t. close_rule g true line r i t)) d
+module _ (g : Setting) (due : Bool) (o : Begun) (m : ParserState) (tokens b : List ℕ) (s : Code.ParserState) {y z : Code·ending.Ending} (same : y ≡ z)
+    (h : view_end tokens b s y ≡ tracked g due o m (λ (t : ParserState). Ok t)) where
+  then_on : (k : ParserState → Ending ParserState) → on_ok (view_end tokens b s z) k ≡ tracked g due o m k
+  then_on k =
+      ap (λ (x : Ending ParserState). on_ok x k) (sym (ap (view_end tokens b s) same) ∙ h)
+      ∙ sym (tracking_then g o.line o.rule due o.position.0 o.noted.positives o.noted.negatives o.noted.total m k)
 
-    pub after_err : (i : ℕ) (e : Ending ParserState) → due ≡ not (is_negative m.lookahead) → e ≡ on_ok (view_end tokens b s z) (λ t. Err (dropped i t))
-        → e ≡ rule_end g true line r p i n.positives n.negatives n.total (Err m)
-    after_err i e d q =
-        q ∙ then_on (λ t. Err (dropped i t))
-        ∙ ap (λ (c : Bool). tracking g true c line r p n.positives n.negatives n.total m (λ t. Err (dropped i t))) d
+  pub after_ok : due ≡ is_negative m.lookahead → {e : Ending ParserState} → e ≡ on_ok (view_end tokens b s z) (λ t. close_rule g true o.line o.rule o.index.0 t)
+      → e ≡ rule_ended g o (Ok m)
+  after_ok d q =
+      let close = λ (t : ParserState). close_rule g true o.line o.rule o.index.0 t in
+      q ∙ then_on close ∙ ap (λ (c : Bool). tracked g c o m close) d
+
+  pub after_err : due ≡ not (is_negative m.lookahead) → {e : Ending ParserState} → e ≡ on_ok (view_end tokens b s z) (λ t. Err (dropped o.index.0 t))
+      → e ≡ rule_ended g o (Err m)
+  after_err d q =
+      let drop = λ (t : ParserState). Err (dropped o.index.0 t) in
+      q ∙ then_on drop ∙ ap (λ (c : Bool). tracked g c o m drop) d
 
 -- Tracking does not look at the setting, so that any will do.
 any_setting : Setting
 any_setting = record { text = []; rule_at = λ l. record { line = 0; rule = 0; body = end_of_input }; capacity = 0 }
 
 -- What writing the End asks of the state that tracking left.
-pub recording_after : (tokens a b : List ℕ) (capacity : ℕ) (due : Bool) (line r p : ℕ) (n : Noted) (s t : Code.ParserState) (x : Code·ending.Ending) → x ≡ Code·of.Ok
-    → ((g : Setting) (ts : List ℕ) → view_end ts b t x ≡ tracking g true due line r p n.positives n.negatives n.total (view ts a s) (λ (u : ParserState). Ok u))
+pub recording_after : (tokens a b : List ℕ) {capacity : ℕ} (due : Bool) (o : Begun) (s t : Code.ParserState) {x : Code·ending.Ending} → x ≡ Code·of.Ok
+    → ((g : Setting) (ts : List ℕ) → view_end ts b t x ≡ tracked g due o (view ts a s) (λ (u : ParserState). Ok u))
     → Recording tokens capacity s → Recording tokens capacity t
-recording_after tokens a b capacity due line r p n s t x e h w =
+recording_after tokens a b due o s t {x} e h w =
     let stood : t.position.0 ≡ s.position.0 =
-    subst (λ (y : Ending ParserState). At y s.position.0) (sym (h any_setting tokens) ∙ ap (view_end tokens b t) e) (tracking_at any_setting due line r p n (view tokens a s)) in
+    subst (λ (y : Ending ParserState). At y s.position.0) (sym (h any_setting tokens) ∙ ap (view_end tokens b t) e)
+    (tracking_at any_setting due o.line o.rule o.position.0 o.noted (view tokens a s)) in
     record { room = w.room; most = w.most; near = omega (arith, stood, w.near) }

@@ -1,6 +1,6 @@
 -- The leaves of `rule`: each law is one arm of the code, over pest's own state. The last part puts the leaves together again: `rule` is
 -- its start, its body, and its end.
-use Rattle.std.specs.Prelude.{if◌then◌else◌}
+use Rattle.std.specs.Prelude.{Option, None, Some, if◌then◌else◌}
 use mathlib.Core.Path.{◌≡◌, refl, sym, ap, ◌∙◌}
 use mathlib.Core.Bool.{Bool, true, false, ◌&&◌, ◌||◌, not}
 use mathlib.Core.List.{List, [], ◌∷◌, ◌++◌}
@@ -12,32 +12,25 @@ use lib.Dec.{ltb, leb}
 use borrow.Author.Tests.{le-leb, lt-leb}
 use Rattle.matching.specs.declared.position.BytePosition.{BytePosition}
 use Rattle.matching.specs.declared.position.TokenIndex.{TokenIndex}
-use Rattle.reading.specs.declared.parser_state.Lookahead.{Lookahead}
-use Rattle.reading.specs.declared.parser_state.Atomicity.{Atomicity}
 use Rattle.reading.specs.declared.parser_state.Cause.TheVariants.{TokensFull, AttemptsFull}
 use Rattle.engine.specs.declared.attempts.Noted.{Noted}
 use Rattle.engine.specs.declared.attempts.Attempts.{Attempts}
 use Rattle.engine.specs.declared.stack.Stack.{Stack}
 use Rattle.engine.specs.Fields as Declared
-use Rattle.reading.specs.Ending.{Ending, Ok, Stop, on_ok, stop_if, is_negative, is_none, is_atomic}
+use Rattle.engine.specs.declared.parser_state.ParserState as DeclaredState
+use Rattle.reading.specs.Ending.{Ending, Ok, Stop, on_ok, stop_if, is_negative, is_atomic}
 use Rattle.reading.specs.Reading.{Setting, most_attempts}
 use Rattle.reading.specs.Pest as Pest
 use Rattle.reading.specs.Pest.{ParserState, QueueableToken, Start, End, produces, with_end, set_queue, push_token, tracking, close_rule, tag_last, tag_node}
 use Rattle.engine.specs.Areas.{Outside, view, queue_of, stack_of, span, checkpoint, positives_at, lengths_at, entries_at, popped_at}
-use Rattle.engine.specs.Attempts.{Tried, tried, tried_of, with_tried, noted, tracked, Track, kept, full, within, Lent}
-use Rattle.engine.specs.Tokens.{Patched, Paired, Pushed, Tagged}
-use Rattle.engine.specs.Rule.{starting, dropped, Recording}
-use Rattle.engine.proofs.Regions.{outside_refl, outside_wider, same_below, same_above, pairs_same}
+use Rattle.engine.specs.Attempts.{Tried, tried, tried_of, with_tried, noted, tracked, within}
+use Rattle.engine.specs.Tokens.{Paired, Pushed}
+use Rattle.engine.specs.Rule.{starting, dropped}
+use Rattle.engine.proofs.Regions.{outside_refl, same_below, same_above, pairs_same}
 use Rattle.engine.proofs.TokenLaws.{queue_length}
 use Rattle.engine.proofs.AttemptLaws.{track_is}
 
 -- ── produces ──
-pub produces_none : (l : Lookahead) (a : Atomicity) (b c : Bool) → b ≡ is_none l → b ≡ true → c ≡ is_atomic a → not c ≡ (is_none l && not (is_atomic a))
-produces_none l a b c e t q = rw (← e, t, q)
-
-pub produces_not : (l : Lookahead) (a : Atomicity) (b : Bool) → b ≡ is_none l → b ≡ false → false ≡ (is_none l && not (is_atomic a))
-produces_not l a b e f = rw (← e, f)
-
 -- ── a test that is decided ──
 module _ {A : Type 0} (b : Bool) (x y : A) where
   when_true : b ≡ true → y ≡ elim b [ false ↦ x | true ↦ y ]
@@ -69,7 +62,7 @@ module _ (g : Setting) (line : ℕ) (m : ParserState) where
   start_off f = when_false (produces m) (Ok m) (push_token g true line (Start 0 m.position) m (λ s. Ok s)) f
 
 -- What was read of the state, put for what the state has.
-pub pushed_at : (a b : List ℕ) (s : Declared.ParserState) (n : TokenIndex) (p : BytePosition) (f : ℕ → QueueableToken) → n ≡ s.queue → p ≡ s.position → Pushed a n.0 (f p.0) b
+pub pushed_at : (a b : List ℕ) (s : DeclaredState.ParserState) (n : TokenIndex) (p : BytePosition) (f : ℕ → QueueableToken) → n ≡ s.queue → p ≡ s.position → Pushed a n.0 (f p.0) b
     → Pushed a s.queue.0 (f s.position.0) b
 pushed_at a b s n p f e h q = rw (e, h) at q
 
@@ -106,30 +99,20 @@ module _ (a : List ℕ) (n q : TokenIndex) (same : n ≡ q) (capacity c : ℕ) (
   room_no h = let k : n.0 ≡ q.0 = ap (λ (x : TokenIndex). x.0) same in omega (arith, queue_length a q.0)
 
 -- What a push asks.
-module _ {tokens : List ℕ} {room : ℕ} (s : Declared.ParserState) (ready : Recording tokens room s) where
-  pub room_left : (n : TokenIndex) → n.0 < room → n.0 * 5 + 5 ≤ length tokens
-  room_left n l = omega (arith, ready.room)
-
-  pub near_read : (p : BytePosition) → p ≡ s.position → p.0 ≤ 65535
-  near_read p e = rw e ready.near
-
 -- One more token than were read.
-pub one_more : (tokens scratch : List ℕ) (s t : Declared.ParserState) (n : TokenIndex) → n ≡ s.queue → t ≡ Declared.set_queue (record { 0 = n.0 + 1 }) s
+pub one_more : (tokens scratch : List ℕ) (s t : DeclaredState.ParserState) (n : TokenIndex) → n ≡ s.queue → t ≡ Declared.set_queue (record { 0 = n.0 + 1 }) s
     → view tokens scratch t ≡ set_queue (queue_of tokens (s.queue.0 + 1)) (view tokens scratch s)
 one_more tokens scratch s t n e h = rw (h, e)
 
 -- ── the partner of a Start among n tokens ──
 module _ (a b : List ℕ) (i n : ℕ) where
-  pub paired_in : i < n → Patched a i n b → Paired a i n b
-  paired_in l p = record { queue = p.queue n; others = outside_wider (omega arith) (omega arith) p.others }
-
   pub paired_out : n ≤ i → Paired a i n a
   paired_out l = record { queue = sym (set_out (queue_of a n) i _ (omega (arith, queue_length a n))); others = outside_refl a }
 
 pub paired_queue : (a b : List ℕ) (i n : ℕ) → Paired a i n b → queue_of b n ≡ partnered i (queue_of a n)
 paired_queue a b i n p = p.queue ∙ ap (λ (k : ℕ). set (queue_of a n) i (with_end k (get_or (queue_of a n) i (Start 0 0)))) (sym (queue_length a n))
 
-pub paired_at : (a b : List ℕ) (s : Declared.ParserState) (n : TokenIndex) (i : ℕ) → n ≡ s.queue → Paired a i n.0 b → Paired a i s.queue.0 b
+pub paired_at : (a b : List ℕ) (s : DeclaredState.ParserState) (n : TokenIndex) (i : ℕ) → n ≡ s.queue → Paired a i n.0 b → Paired a i s.queue.0 b
 paired_at a b s n i e h = rw e at h
 
 -- ── drop ──
@@ -145,20 +128,6 @@ module _ (i : ℕ) (m : ParserState) where
 
 -- ── tag ──
 -- the queue's length as it was read, put for what the state has
-module _ (n q : TokenIndex) (same : n ≡ q) where
-  pub fits_read : (size : ℕ) → q.0 * 5 ≤ size → n.0 * 5 ≤ size
-  fits_read size h = rw same h
-
-  pub tagged_at : (a b : List ℕ) (u : ℕ) → Tagged a n.0 u b → Tagged a q.0 u b
-  tagged_at a b u h = rw same at h
-
-module _ (u : ℕ) (m : ParserState) where
-  pub tag_on : (q : List QueueableToken) → is_none m.lookahead ≡ true → q ≡ tag_last u m.queue → Ok (set_queue q m) ≡ tag_node u m
-  tag_on q t e = rw t (ap (λ (x : List QueueableToken). Ok (set_queue x m)) e)
-
-  pub tag_off : is_none m.lookahead ≡ false → Ok m ≡ tag_node u m
-  tag_off f = rw f
-
 -- ── track ──
 -- Tracking leaves the stack as it was.
 pub stack_kept : (a b : List ℕ) (s : Stack) → s.height ≤ 128 → s.popped ≤ 1024 → Outside positives_at lengths_at a b → stack_of b s ≡ stack_of a s
@@ -169,15 +138,15 @@ stack_kept a b s h p o = sym (λ i. record {
 })
 
 -- The state with other attempts, seen from the area as tracking left it.
-pub kept_view : (tokens a b : List ℕ) (s : Declared.ParserState) (u : Attempts) → s.stack.height ≤ 128 → s.stack.popped ≤ 1024 → Outside positives_at lengths_at a b
+pub kept_view : (tokens a b : List ℕ) (s : DeclaredState.ParserState) (u : Attempts) → s.stack.height ≤ 128 → s.stack.popped ≤ 1024 → Outside positives_at lengths_at a b
     → view tokens b (Declared.set_attempts u s)
     ≡ with_tried (tried b u) (view tokens a s)
 kept_view tokens a b s u h p o = ap (λ (v : Pest.Stack). Pest.set_stack v (with_tried (tried b u) (view tokens a s))) (stack_kept a b s.stack h p o)
 
 -- The state with the attempts that were kept, or a stop.
-abbrev pub told : (line : ℕ) → Track → ParserState → Ending ParserState
-told line (kept t) m = Ok (with_tried t m)
-told line full m = Stop (AttemptsFull line)
+abbrev pub told : (line : ℕ) → Option Tried → ParserState → Ending ParserState
+told line (Some t) m = Ok (with_tried t m)
+told line None m = Stop (AttemptsFull line)
 
 -- `tracking`, once it is due
 abbrev now_tracked : (line : ℕ) → ParserState → Ending ParserState
@@ -186,7 +155,7 @@ now_tracked line n = stop_if (ltb most_attempts (length n.pos_attempts) || ltb m
 told_within : (line : ℕ) (t : Tried) (m : ParserState) → told line (within t) m ≡ now_tracked line (with_tried t m)
 told_within line t m = go (ltb most_attempts (length t.positive) || ltb most_attempts (length t.negative))
   where
-    go : (b : Bool) → told line (if b then full else kept t) m ≡ stop_if b (AttemptsFull line) (λ _. Ok (with_tried t m))
+    go : (b : Bool) → told line (if b then None else Some t) m ≡ stop_if b (AttemptsFull line) (λ _. Ok (with_tried t m))
     go true = refl
     go false = refl
 
@@ -194,27 +163,18 @@ module _ (g : Setting) (due : Bool) (line r p : ℕ) (n : Noted) (m : ParserStat
   abbrev after : ParserState
   after = Pest.track r p n.positives n.negatives n.total m
 
-  pub track_not_due : due ≡ false → Ok m ≡ tracking g true due line r p n.positives n.negatives n.total m (λ t. Ok t)
-  track_not_due f = rw f
-
-  pub track_atomic : due ≡ true → is_atomic m.atomicity ≡ true → Ok m ≡ tracking g true due line r p n.positives n.negatives n.total m (λ t. Ok t)
-  track_atomic d f = when_false (due && not (is_atomic m.atomicity)) (Ok m) (now_tracked line after) (rw (d, f))
-
   -- w is what tracking gave under the lookahead that `neg` tells of, and v is that answer seen again.
-  pub track_told : (v w : Track) (neg : Bool) → v ≡ w → w ≡ within (tracked r p n neg (tried_of m)) → neg ≡ is_negative m.lookahead → due ≡ true → is_atomic m.atomicity ≡ false
+  pub track_told : (v w : Option Tried) (neg : Bool) → v ≡ w → w ≡ within (tracked r p n neg (tried_of m)) → neg ≡ is_negative m.lookahead → due ≡ true → is_atomic m.atomicity ≡ false
       → told line v m ≡ tracking g true due line r p n.positives n.negatives n.total m (λ t. Ok t)
   track_told v w neg q e h d f =
-      ap (λ (x : Track). told line x m) (q ∙ e ∙ ap (λ (b : Bool). within (tracked r p n b (tried_of m))) h)
+      ap (λ (x : Option Tried). told line x m) (q ∙ e ∙ ap (λ (b : Bool). within (tracked r p n b (tried_of m))) h)
       ∙ told_within line (tracked r p n (is_negative m.lookahead) (tried_of m)) m
       ∙ ap (now_tracked line) (sym (track_is r p n m f))
       ∙ when_true (due && not (is_atomic m.atomicity)) (Ok m) (now_tracked line after) (rw (d, f))
 
 -- The attempts t that were read, put for those of the state, u.
 module _ (a : List ℕ) (t u : Attempts) (same : t ≡ u) where
-  pub lent_read : Lent a u → Lent a t
-  lent_read h = rw same h
-
-  pub track_read : (r p : ℕ) (n : Noted) (neg : Bool) (w : Track) → w ≡ within (tracked r p n neg (tried a t)) → w ≡ within (tracked r p n neg (tried a u))
+  pub track_read : (r p : ℕ) (n : Noted) (neg : Bool) (w : Option Tried) → w ≡ within (tracked r p n neg (tried a t)) → w ≡ within (tracked r p n neg (tried a u))
   track_read r p n neg w h = rw same at h
 
 -- ── `rule` is its leaves ──

@@ -3,16 +3,15 @@
 use mathlib.Core.Path.{◌≡◌, refl, sym, ap, ap₂, ◌∙◌, subst}
 use mathlib.Core.Bool.{true}
 use mathlib.Core.List.{List, []}
-use mathlib.Core.Option.{Option, none, some}
+use Rattle.std.specs.Prelude.{Option, None, Some}
 use Prim.Native.Nat.{ℕ, zero, suc, ◌*◌, ◌≤◌}
 use native.Mathlib.Omega.{arith}
 use lib.ListN.{length}
 use borrow.Author.Tests.{lt-ltb}
-use Rattle.reading.specs.declared.parser_state.Lookahead.TheVariants.{None}
+use Rattle.reading.specs.declared.parser_state.Lookahead.TheVariants as Looks
 use Rattle.reading.specs.declared.parser_state.Atomicity.TheVariants.{NonAtomic}
-use Rattle.checks.specs.declared.call_limit_tracker.LimitReached.TheVariants.{No}
-use Rattle.checks.specs.declared.grammar.Refused.TheVariants.{By}
-use Rattle.engine.specs.Fields as State
+use Rattle.checks.specs.declared.grammar.Refused.{Refused}
+use Rattle.engine.specs.declared.parser_state.ParserState as State
 use Rattle.reading.specs.declared.parser_state.Ending as Declared
 use Rattle.reading.specs.declared.parser_state.Ending.TheVariants as Code
 use Rattle.reading.specs.Ending.{Ending, Ok, Err, Stop}
@@ -22,7 +21,7 @@ use Rattle.reading.specs.Pest.{ParserState, CallLimit}
 use Rattle.engine.specs.Areas.{numbers, pairs, queue_of, positives_at, negatives_at, view, view_end}
 use Rattle.checks.specs.Tracker.{limit_of}
 use Rattle.reading.specs.Fit.{Fit}
-use Rattle.checks.specs.Refusals.{refused_of}
+use Rattle.checks.specs.Refusals.{refusal_of}
 use Rattle.reading.specs.Outcome.{Input, Refusal, refusal, refused, capacity, setting, reading, answer, Answer, Outcome, laid, started, outcome}
 use Rattle.reading.specs.Answer.{pest_answer}
 use Rattle.engine.specs.Conclude.{Concluding, ConcludeReady}
@@ -49,30 +48,25 @@ first l = record {
   queue = record { 0 = 0 };
   attempts = record { furthest = record { 0 = 0 }; positives = 0; negatives = 0 };
   stack = record { height = 0; popped = 0; checkpoints = 0 };
-  tracker = record { current = 0; limit = l; reached = No };
-  lookahead = None;
+  tracker = record { current = 0; limit = l; reached = None };
+  lookahead = Looks.None;
   atomicity = NonAtomic;
 }
 
 pub first_is : (l : ℕ) (tokens scratch : List ℕ) → view tokens scratch (first l) ≡ Pest.new l
 unfolding numbers pairs queue_of
-first_is l tokens scratch = ap (λ (x : Option CallLimit). record { position = 0; queue = []; lookahead = None; pos_attempts = []; neg_attempts = []; attempt_pos = 0; atomicity = NonAtomic; stack = record { cache = []; popped = []; lengths = [] }; call_tracker = record { current_call_limit = x; limit_reached = none } }) (limit_is l)
+first_is l tokens scratch = ap (λ (x : Option CallLimit). record { position = 0; queue = []; lookahead = Looks.None; pos_attempts = []; neg_attempts = []; attempt_pos = 0; atomicity = NonAtomic; stack = record { cache = []; popped = []; lengths = [] }; call_tracker = record { current_call_limit = x; limit_reached = None } }) (limit_is l)
 
 -- ── A refused run ──
-pub refused_is : (i : Input) (scratch : List ℕ) (n p : ℕ) → By n p ≡ refused_of (refusal i)
-    → Ran i (refused i (record { number = n; place = p })) scratch scratch
+pub refused_is : (i : Input) (scratch : List ℕ) (r : Refused) → Some (refusal_of r) ≡ refusal i → Ran i (refused i (refusal_of r)) scratch scratch
 unfolding outcome
-refused_is i scratch n p h = record { is = go (refusal i) h; left = λ r e. refl }
-  where
-    go : (o : Option Refusal) → By n p ≡ refused_of o → refused i (record { number = n; place = p }) ≡ (elim o as (λ _. Outcome) [ some r ↦ refused i r | none ↦ started i (answer (reading i)) ])
-    go none e = let z : ◌≡◌ {A = ℕ} 0 1 = cc in absurd (omega arith)
-    go (some r) e =
-        let a : n ≡ r.number = cc in
-        let b : p ≡ r.place = cc in
-        ap₂ (λ (x y : ℕ). refused i (record { number = x; place = y })) a b
+refused_is i scratch r h = record {
+  is = ap (λ (o : Option Refusal). elim o as (λ _. Outcome) [ Some t ↦ refused i t | None ↦ started i (answer (reading i)) ]) h;
+  left = λ _ _. refl;
+}
 
 -- ── A started run ──
-module _ (i : Input) (e : refusal i ≡ none) where
+module _ (i : Input) (e : refusal i ≡ None) where
   s : Started i
   s = Accepted.started i e
 

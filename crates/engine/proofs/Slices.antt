@@ -2,40 +2,22 @@
 use mathlib.Core.Path.{◌≡◌, refl, sym, ap, ap₂, ◌∙◌}
 use mathlib.Core.Bool.{Bool, true, false}
 use mathlib.Core.List.{List, [], ◌∷◌, ◌++◌, reverse, reverse-append}
-use mathlib.Core.Option.{Option, none, some}
-use Prim.Native.Nat.{ℕ, zero, suc, ◌+◌, ◌*◌, ◌-◌, ◌≤◌, ◌<◌}
+use Rattle.std.specs.Prelude.{Option, None, Some}
+use Prim.Native.Nat.{ℕ, zero, suc, ◌+◌, ◌-◌, ◌≤◌, ◌<◌}
 use native.Mathlib.Omega.{arith}
 use native.Mathlib.Decide.{dec_lt}
 use lib.ListN.{length, get_or, take, drop, length-drop, length-reverse, get_or-append}
 use lib.Seq.{take-suc, drop-cons, get_or-drop, get_or_at}
-use Rattle.matching.specs.declared.span.Span as Code
 use Rattle.matching.specs.Answers.{matched}
-use Rattle.matching.specs.Position.{match_string, bytes_of}
+use Rattle.matching.specs.Position.{match_string}
 use Rattle.matching.specs.declared.position.BytePosition.{BytePosition}
-use Rattle.matching.specs.declared.position.Matched.{Matched}
-use Rattle.matching.specs.declared.position.Matched.TheVariants.{At, Failed}
 use Rattle.reading.specs.Pest as Pest
-use Rattle.engine.specs.declared.areas.Pair.{Pair}
-use Rattle.engine.specs.declared.stack_match.Next.{Next}
 use Rattle.reading.specs.Ending.{Span}
 use Rattle.reading.specs.Pest.{slice, all_match, as_str}
 use Rattle.engine.specs.Areas.{pairs, span}
-use Rattle.engine.specs.Pairs.{pair}
-use Rattle.engine.specs.StackMatch.{entry_at, next_of}
+use Rattle.engine.specs.StackMatch.{entry_at, index_at}
 use Rattle.engine.proofs.Regions.{pairs_length}
 use Rattle.engine.proofs.Matching.{match_string_same}
-
--- The bytes of an entry, from its two numbers.
-pub entry_bytes : (text a : List ℕ) (i : ℕ) (x : Pair) (w : Code.Span) (b : List ℕ) → x ≡ pair a (0 + i * 2) → (w.start.0 ≡ x.first) × (w.end.0 ≡ x.second) → b ≡ bytes_of text w.start.0 w.end.0
-    → b ≡ as_str text (entry_at a i)
-entry_bytes text a i x w b ex ew eb =
-    eb ∙ ap₂ (λ (m n : ℕ). bytes_of text m n) (ew.0 ∙ ap (λ (y : Pair). y.first) ex) (ew.1 ∙ ap (λ (y : Pair). y.second) ex)
-
-pub next_down : (low high : ℕ) (down : Bool) → down ≡ true → ◌≡◌ {A = Next} record { index = high - 1; low = low; high = high - 1 } (next_of low high down)
-next_down low high down e = rw e
-
-pub next_up : (low high : ℕ) (down : Bool) → down ≡ false → ◌≡◌ {A = Next} record { index = low; low = low + 1; high = high } (next_of low high down)
-next_up low high down e = rw e
 
 module _ (a : List ℕ) where
   -- The entries, the bottom one first.
@@ -80,78 +62,72 @@ module _ (a : List ℕ) where
         ∙ ap (λ (x : Span). take (high - 1 - low) q ++ (x ∷ [])) (get_or-drop low (up h) (high - 1 - low) d ∙ ap (λ (n : ℕ). get_or (up h) n d) k ∙ up_at h (high - 1) d (omega arith)) in
         ap (λ (x : List Span). reverse x) more ∙ reverse-append (take (high - 1 - low) q) (entry_at a (high - 1) ∷ [])
 
-    -- In the direction asked for.
-    pub slice_next : (down : Bool) (n : Next) → n ≡ next_of low high down → slice low high down (pairs span a 0 h) ≡ entry_at a n.index ∷ slice n.low n.high down (pairs span a 0 h)
-    slice_next true n e = rw e slice_down
-    slice_next false n e = rw e slice_up
+  -- What is left of a slice at turn k.
+  abbrev pub left : (start end k : ℕ) → (down : Bool) → (h : ℕ) → List Span
+  left start end k true h = slice start (end - (k - start)) true (pairs span a 0 h)
+  left start end k false h = slice k end false (pairs span a 0 h)
 
-    pub next_inside : (down : Bool) (n : Next) → n ≡ next_of low high down → (n.index < high) × (n.high ≤ high) × (n.high - n.low < high - low)
-    next_inside true n e = rw e (omega arith, omega arith, omega arith)
-    next_inside false n e = rw e (omega arith, omega arith, omega arith)
-
-  pub slice_none : (low high h : ℕ) (down : Bool) → high ≤ low → slice low high down (pairs span a 0 h) ≡ []
-  slice_none low high h true l = let z : high - low ≡ 0 = omega arith in rw z
-  slice_none low high h false l = let z : high - low ≡ 0 = omega arith in rw z
+  pub left_next : (start end k : ℕ) (down : Bool) (h : ℕ) → start ≤ k → k < end → end ≤ h
+      → left start end k down h ≡ entry_at a (index_at start end k down) ∷ left start end (k + 1) down h
+  left_next start end k true h m l g =
+      let i : end - (k - start) - 1 ≡ end - 1 - (k - start) = omega arith in
+      let j : end - (k - start) - 1 ≡ end - (k + 1 - start) = omega arith in
+      slice_down start (end - (k - start)) h (omega arith) (omega arith)
+      ∙ ap₂ (λ (x y : ℕ). entry_at a x ∷ slice start y true (pairs span a 0 h)) i j
+  left_next start end k false h m l g = slice_up k end h l g
 
 -- ── A slice, matched ──
-pub matched_at : (o : Option ℕ) (q : BytePosition) → matched o ≡ At q → o ≡ some q.0
-matched_at none q e = let z : ◌≡◌ {A = ℕ} 0 1 = cc in absurd (omega arith)
-matched_at (some p) q e = let f : record { 0 = p } ≡ q = cc in ap (λ (x : BytePosition). some x.0) f
+pub matched_at : (o : Option ℕ) (q : BytePosition) → matched o ≡ Some q → o ≡ Some q.0
+matched_at None q e = let z : ◌≡◌ {A = ℕ} 0 1 = cc in absurd (omega arith)
+matched_at (Some p) q e = let f : record { 0 = p } ≡ q = cc in ap (λ (x : BytePosition). Some x.0) f
 
-pub matched_failed : (o : Option ℕ) → matched o ≡ Failed → o ≡ none
-matched_failed none e = refl
-matched_failed (some p) e = let z : ◌≡◌ {A = ℕ} 0 1 = cc in absurd (omega arith)
+pub matched_failed : (o : Option ℕ) → matched o ≡ None → o ≡ None
+matched_failed None e = refl
+matched_failed (Some p) e = let z : ◌≡◌ {A = ℕ} 0 1 = cc in absurd (omega arith)
 
-module _ (text : List ℕ) (x : Span) (bytes : List ℕ) (eb : bytes ≡ as_str text x) (p : ℕ) (r : Matched) (er : r ≡ matched (match_string text bytes p)) where
+module _ (text : List ℕ) (x : Span) (bytes : List ℕ) (eb : bytes ≡ as_str text x) (p : ℕ) (r : Option BytePosition) (er : r ≡ matched (match_string text bytes p)) where
   -- What a string that was matched by the crate below says of pest's match of an entry.
-  pub entry_at_end : (q : BytePosition) → r ≡ At q → Pest.match_string text (as_str text x) p ≡ some q.0
+  pub entry_at_end : (q : BytePosition) → r ≡ Some q → Pest.match_string text (as_str text x) p ≡ Some q.0
   entry_at_end q e = rw (← eb) (match_string_same text bytes p ∙ matched_at (match_string text bytes p) q (sym er ∙ e))
 
-  pub entry_failed : r ≡ Failed → Pest.match_string text (as_str text x) p ≡ none
+  pub entry_failed : r ≡ None → Pest.match_string text (as_str text x) p ≡ None
   entry_failed e = rw (← eb) (match_string_same text bytes p ∙ matched_failed (match_string text bytes p) (sym er ∙ e))
 
 module _ (text : List ℕ) (x : Span) (xs : List Span) (p : ℕ) where
-  all_some : (q : ℕ) → Pest.match_string text (as_str text x) p ≡ some q → all_match text (x ∷ xs) p ≡ all_match text xs q
+  all_some : (q : ℕ) → Pest.match_string text (as_str text x) p ≡ Some q → all_match text (x ∷ xs) p ≡ all_match text xs q
   all_some q e = go (Pest.match_string text (as_str text x) p) e
     where
-      go : (o : Option ℕ) → o ≡ some q → elim o [ none ↦ none | some r ↦ all_match text xs r ] ≡ all_match text xs q
+      go : (o : Option ℕ) → o ≡ Some q → elim o [ None ↦ None | Some r ↦ all_match text xs r ] ≡ all_match text xs q
       go o e = rw e
 
-  all_none : Pest.match_string text (as_str text x) p ≡ none → all_match text (x ∷ xs) p ≡ none
+  all_none : Pest.match_string text (as_str text x) p ≡ None → all_match text (x ∷ xs) p ≡ None
   all_none e = go (Pest.match_string text (as_str text x) p) e
     where
-      go : (o : Option ℕ) → o ≡ none → ◌≡◌ {A = Option ℕ} (elim o [ none ↦ none | some r ↦ all_match text xs r ]) none
+      go : (o : Option ℕ) → o ≡ None → ◌≡◌ {A = Option ℕ} (elim o [ None ↦ None | Some r ↦ all_match text xs r ]) None
       go o e = rw e
 
-module _ (text a : List ℕ) (down : Bool) where
+module _ (text a : List ℕ) (down : Bool) (start end : ℕ) (pos : BytePosition) where
   -- The loop's invariant, whatever the height is: what is left of the slice decides, from here on.
-  pub record Left (start end : ℕ) (pos : BytePosition) (low high : ℕ) (at : BytePosition) : Type 0 where
-    pub inside : high ≤ end
-    pub rest : (h : ℕ) → end ≤ h → all_match text (slice low high down (pairs span a 0 h)) at.0 ≡ all_match text (slice start end down (pairs span a 0 h)) pos.0
+  pub record Left (k : ℕ) (at : BytePosition) : Type 0 where
+    pub rest : (h : ℕ) → end ≤ h → all_match text (left a start end k down h) at.0 ≡ all_match text (slice start end down (pairs span a 0 h)) pos.0
 
-  pub left_start : (start end : ℕ) (pos : BytePosition) → Left start end pos start end pos
-  left_start start end pos = record { inside = omega arith; rest = λ h l. refl }
+  module _ (k : ℕ) (at : BytePosition) (w : Left k at) (m : start ≤ k) where
+    module _ (l : k < end) (i : ℕ) (ei : i ≡ index_at start end k down) (bytes : List ℕ) (eb : bytes ≡ as_str text (entry_at a i)) (r : Option BytePosition) (er : r ≡ matched (match_string text bytes at.0)) where
+      next : (h : ℕ) → end ≤ h → left a start end k down h ≡ entry_at a i ∷ left a start end (k + 1) down h
+      next h g = left_next a start end k down h m l g ∙ ap (λ (j : ℕ). entry_at a j ∷ left a start end (k + 1) down h) (sym ei)
 
-  module _ (start end : ℕ) (pos : BytePosition) (low high : ℕ) (at : BytePosition) (w : Left start end pos low high at) where
-    module _ (l : low < high) (n : Next) (en : n ≡ next_of low high down) (bytes : List ℕ) (eb : bytes ≡ as_str text (entry_at a n.index)) (r : Matched) (er : r ≡ matched (match_string text bytes at.0)) where
-      pub left_more : (q : BytePosition) → r ≡ At q → Left start end pos n.low n.high q
+      pub left_more : (q : BytePosition) → r ≡ Some q → Left (k + 1) q
       left_more q e = record {
-        inside = omega (arith, next_inside a low high end l w.inside down n en);
         rest = λ h g.
-            let s : slice low high down (pairs span a 0 h) ≡ entry_at a n.index ∷ slice n.low n.high down (pairs span a 0 h) = slice_next a low high h l (omega (arith, w.inside)) down n en in
-            let t : all_match text (slice low high down (pairs span a 0 h)) at.0 ≡ all_match text (slice n.low n.high down (pairs span a 0 h)) q.0 =
-            rw s (all_some text (entry_at a n.index) (slice n.low n.high down (pairs span a 0 h)) at.0 q.0 (entry_at_end text (entry_at a n.index) bytes eb at.0 r er q e)) in
+            let t : all_match text (left a start end k down h) at.0 ≡ all_match text (left a start end (k + 1) down h) q.0 =
+            ap (λ (xs : List Span). all_match text xs at.0) (next h g)
+            ∙ all_some text (entry_at a i) (left a start end (k + 1) down h) at.0 q.0 (entry_at_end text (entry_at a i) bytes eb at.0 r er q e) in
             sym t ∙ w.rest h g;
       }
 
-      pub left_fails : (h : ℕ) → end ≤ h → r ≡ Failed → Failed ≡ matched (all_match text (slice start end down (pairs span a 0 h)) pos.0)
+      pub left_fails : (h : ℕ) → end ≤ h → r ≡ None → None ≡ matched (all_match text (slice start end down (pairs span a 0 h)) pos.0)
       left_fails h g e =
-          let s : slice low high down (pairs span a 0 h) ≡ entry_at a n.index ∷ slice n.low n.high down (pairs span a 0 h) = slice_next a low high h l (omega (arith, w.inside)) down n en in
-          let t : all_match text (slice low high down (pairs span a 0 h)) at.0 ≡ none =
-          rw s (all_none text (entry_at a n.index) (slice n.low n.high down (pairs span a 0 h)) at.0 (entry_failed text (entry_at a n.index) bytes eb at.0 r er e)) in
+          let t : all_match text (left a start end k down h) at.0 ≡ None =
+          ap (λ (xs : List Span). all_match text xs at.0) (next h g)
+          ∙ all_none text (entry_at a i) (left a start end (k + 1) down h) at.0 (entry_failed text (entry_at a i) bytes eb at.0 r er e) in
           ap matched (sym t ∙ w.rest h g)
-
-    pub left_done : (h : ℕ) → end ≤ h → high ≤ low → At at ≡ matched (all_match text (slice start end down (pairs span a 0 h)) pos.0)
-    left_done h g l =
-        let t : all_match text (slice low high down (pairs span a 0 h)) at.0 ≡ some at.0 = rw (slice_none a low high h down l) in
-        ap matched (sym t ∙ w.rest h g)

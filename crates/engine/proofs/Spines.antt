@@ -1,42 +1,16 @@
 -- Walks by the left sides of kinds 6 and 7: they lead to lower lines, so a walk ends, and each of its lines is one of the grammar's.
 use mathlib.Core.Path.{◌≡◌, refl, sym, ap, subst, ◌∙◌}
-use mathlib.Core.Bool.{true, false, true≢false}
-use mathlib.Core.Logic.{inl, inr}
 use mathlib.Core.List.{List}
 use Prim.Native.Nat.{ℕ, zero, suc, ◌+◌, ◌*◌, ◌≤◌, ◌<◌}
 use native.Mathlib.Decide.{dec_le}
 use native.Mathlib.Numerals.{add-one}
 use native.Mathlib.Omega.{arith}
-use lib.Dec.{eqb}
 use lib.IntN.{ℤ}
-use borrow.Author.Tests.{eqb-true, eqb-false}
 use lib.ListN.{length}
 use Rattle.engine.specs.declared.node.Line.{Line}
 use Rattle.reading.specs.Grammar.{node_at, kind_at}
 use Rattle.engine.specs.Lines.{line_of}
-use Rattle.engine.specs.Spine.{left_of, Fork, spine_line, Forks, Slopes, Spined}
-
-pub fork_of : (k : ℕ) → 6 ≤ k → k ≤ 7 → Fork k
-fork_of k lo hi = go (dec_le k 6)
-  where
-    go : Dec (k ≤ 6) → Fork k
-    go (yes h) = inl (omega arith)
-    go (no f) = inr (omega arith)
-
-pub no_fork : (k : ℕ) → (6 ≤ k → k ≤ 7 → ⊥) → Fork k → ⊥
-no_fork k f (inl e) = f (omega arith) (omega arith)
-no_fork k f (inr e) = f (omega arith) (omega arith)
-
--- The test for a fork.
-pub six_forks : (k : ℕ) → k ≡ 6 → (true ≡ true → Fork k) × (true ≡ false → Fork k → ⊥)
-six_forks k e = (λ _. inl e, λ f _. true≢false f)
-
-pub seven_forks : (k : ℕ) → (k ≡ 6 → ⊥) → (eqb k 7 ≡ true → Fork k) × (eqb k 7 ≡ false → Fork k → ⊥)
-seven_forks k n = (λ e. inr (eqb-true k 7 e), none)
-  where
-    none : eqb k 7 ≡ false → Fork k → ⊥
-    none e (inl f) = n f
-    none e (inr f) = eqb-false k 7 e f
+use Rattle.engine.specs.Spine.{left_of, Fork, spine_line, Forks, Slopes}
 
 module _ (ns : List ℤ) (top : ℕ) where
   pub spine_first : top ≡ spine_line ns top 0
@@ -111,6 +85,3 @@ module _ (ns : List ℤ) (top : ℕ) where
             place = ap (λ (m : Line). m.a) e ∙ ap (left_of ns) w.place ∙ sym (spine_next ns top count);
             forks = forks_more ns top count w.forks (subst (λ (x : ℕ). Fork (kind_at ns x)) w.place (subst Fork kind_here k));
           }
-
-      pub last_slide : (Fork n.kind → ⊥) → Spined ns top (record { count = count; line = line })
-      last_slide f = record { forks = w.forks; place = w.place; last = λ k. f (subst Fork (sym kind_here) k) }

@@ -1,6 +1,6 @@
 -- What each function of the stack does, over the numbers of scratch: a region is a list of pairs, the last one first, so that to write
 -- after the last pair is `∷`, and the other regions lie outside of what is written.
-use Rattle.std.specs.Prelude.{if◌then◌else◌}
+use Rattle.std.specs.Prelude.{None, Some, if◌then◌else◌}
 use mathlib.Core.Path.{◌≡◌, refl, sym, ap, ap₂, ◌∙◌}
 use mathlib.Core.List.{List, [], ◌∷◌, ◌++◌, reverse}
 use Prim.Native.Nat.{ℕ, suc, ◌+◌, ◌*◌, ◌-◌, ◌≤◌, ◌<◌, min}
@@ -11,20 +11,19 @@ use lib.Dec.{ltb}
 use borrow.Author.Tests.{eq-eqb, ne_eqb, lt-ltb, le-ltb, le-leb, lt-leb}
 use Rattle.matching.specs.declared.span.Span as Code
 use Rattle.reading.specs.Pest as Pest
-use Rattle.engine.specs.declared.areas.Pair.{Pair}
 use Rattle.engine.specs.declared.stack.Stack.{Stack}
 use Rattle.reading.specs.Ending.{Span, Checkpoint}
 use Rattle.reading.specs.Reading.{debt}
 use Rattle.reading.specs.Pest.{snapshot, clear_snapshot, restore, truncate}
 use Rattle.engine.specs.Areas.{pairs, span, checkpoint, stack_of, Outside}
-use Rattle.engine.specs.Pairs.{pair, put, drained, refilled}
-use Rattle.engine.specs.Bounded.{Push, kept, Take, got, pushed, taken, taken_from}
+use Rattle.engine.specs.Pairs.{pair, put, refilled}
+use Rattle.engine.specs.Bounded.{Take, got, pushed, taken, taken_from}
 use Rattle.reading.specs.Sound.{Fits, fits_one}
 use Rattle.engine.specs.StackReady.{StackReady, OutsideStack}
 use Rattle.reading.proofs.StackLaws.{pest}
 use Rattle.reading.proofs.SoundLaws.{fits_high}
 use Rattle.engine.proofs.Regions.{outside_put, pairs_put, pairs_length, pairs_same, pairs_last, pairs_drop, same_above, same_below, stack_refl, stack_trans, stack_below, stack_above}
-use Rattle.engine.proofs.Moves.{drained_outside, drained_pairs, refilled_outside, refilled_pairs}
+use Rattle.engine.proofs.Moves.{Drained, drained_outside, drained_pairs, refilled_outside, refilled_pairs}
 
 abbrev pub counts : (height popped checkpoints : ℕ) → Stack
 counts h p c = record { height = h; popped = p; checkpoints = c }
@@ -91,18 +90,18 @@ module _ (a : List ℕ) (s : Stack) (r : StackReady a s) where
   fits_is = rw (pairs_length span a 0 h) at r.sound.fits
 
   -- ── push ──
-  pub push_ok : (x y : ℕ) (a' : List ℕ) → h < 128 → a' ≡ put a (0 + h * 2) x y → (kept (stack_of a' (counts (h + 1) p c)) ≡ pushed (span x y) (stack_of a s)) × OutsideStack a a'
+  pub push_ok : (x y : ℕ) (a' : List ℕ) → h < 128 → a' ≡ put a (0 + h * 2) x y → (Some (stack_of a' (counts (h + 1) p c)) ≡ pushed (span x y) (stack_of a s)) × OutsideStack a a'
   push_ok x y a' l e =
       let o : Outside (0 + h * 2) (0 + h * 2 + 2) a a' = rw e (outside_put a (0 + h * 2) x y) in
       let j : h + 1 ≡ suc h = omega arith in
       let q : pairs span a' 0 (h + 1) ≡ span x y ∷ entries h = ap₂ (λ (b : List ℕ) (m : ℕ). pairs span b 0 m) e j ∙ pairs_put span a 0 h x y (omega arith) in (
-        rw (pairs_length span a 0 h, lt-leb 128 h l) (ap kept (pest_ext q
+        rw (pairs_length span a 0 h, lt-leb 128 h l) (ap (λ (v : Pest.Stack). Some v) (pest_ext q
             (sym (pairs_same span a a' 256 p (same_above 256 (256 + p * 2) (omega arith) o)))
             (sym (pairs_same checkpoint a a' 2816 c (same_above 2816 (2816 + c * 2) (omega arith) o))))),
         stack_below (omega arith) o,
       )
 
-  pub push_full : (x y : ℕ) → 128 ≤ h → (Push.full ≡ pushed (span x y) (stack_of a s)) × OutsideStack a a
+  pub push_full : (x y : ℕ) → 128 ≤ h → (None ≡ pushed (span x y) (stack_of a s)) × OutsideStack a a
   push_full x y l = (rw (pairs_length span a 0 h, le-leb 128 h l), stack_refl a)
 
   -- ── snapshot ──
@@ -118,12 +117,12 @@ module _ (a : List ℕ) (s : Stack) (r : StackReady a s) where
       )
 
   -- ── The innermost checkpoint, as the code reads it ──
-  module _ (cz : c ≡ 0 → ⊥) (top : Pair) (et : top ≡ pair a (2816 + (c - 1) * 2)) where
+  module _ (cz : c ≡ 0 → ⊥) (top : ℕ × ℕ) (et : top ≡ pair a (2816 + (c - 1) * 2)) where
     abbrev tall : ℕ
-    tall = top.first
+    tall = top.0
 
     abbrev low : ℕ
-    low = top.second
+    low = top.1
 
     lengths_is : marks c ≡ checkpoint tall low ∷ marks (c - 1)
     lengths_is = rw et (pairs_last checkpoint a 2816 c (c - 1) (omega arith))
@@ -136,11 +135,11 @@ module _ (a : List ℕ) (s : Stack) (r : StackReady a s) where
   unfolding pairs
   pop_empty e = (rw e, stack_refl a)
 
-  module _ (hz : h ≡ 0 → ⊥) (x : Pair) (ex : x ≡ pair a (0 + (h - 1) * 2)) (w : Code.Span) (ew : (w.start.0 ≡ x.first) × (w.end.0 ≡ x.second)) where
+  module _ (hz : h ≡ 0 → ⊥) (x : ℕ × ℕ) (ex : x ≡ pair a (0 + (h - 1) * 2)) (w : Code.Span) (ew : (w.start.0 ≡ x.0) × (w.end.0 ≡ x.1)) where
     abbrev gone : Span
     gone = span w.start.0 w.end.0
 
-    gone_is : gone ≡ span x.first x.second
+    gone_is : gone ≡ span x.0 x.1
     gone_is = ap₂ span ew.0 ew.1
 
     cache_is : entries h ≡ gone ∷ entries (h - 1)
@@ -153,145 +152,131 @@ module _ (a : List ℕ) (s : Stack) (r : StackReady a s) where
     low_len : suc (length (entries (h - 1))) ≡ h
     low_len = omega (arith, pairs_length span a 0 (h - 1))
 
-    module _ (cz : c ≡ 0 → ⊥) (top : Pair) (et : top ≡ pair a (2816 + (c - 1) * 2)) where
-      pub pop_above : (top.second ≡ h → ⊥) → (got (stack_of a (counts (h - 1) p c)) gone ≡ taken (stack_of a s)) × OutsideStack a a
+    module _ (cz : c ≡ 0 → ⊥) (top : ℕ × ℕ) (et : top ≡ pair a (2816 + (c - 1) * 2)) where
+      pub pop_above : (top.1 ≡ h → ⊥) → (got (stack_of a (counts (h - 1) p c)) gone ≡ taken (stack_of a s)) × OutsideStack a a
       pop_above n =
-          let t : Top h p top.first top.second (debt (marks (c - 1))) = top_is cz top et in
+          let t : Top h p top.0 top.1 (debt (marks (c - 1))) = top_is cz top et in
           (rw (cache_is, lengths_is cz top et) (taken_above gone (entries (h - 1)) [] (owed p) _ _ (λ e. n (sym e ∙ low_len)) (omega (arith, t.owing))), stack_refl a)
 
-      pub pop_at : (a₁ a₂ : List ℕ) → top.second ≡ h → p < 1024
-          → a₁ ≡ put a (2816 + (c - 1) * 2) top.first (top.second - 1) → a₂ ≡ put a₁ (256 + p * 2) x.first x.second
+      pub pop_at : (a₁ a₂ : List ℕ) → top.1 ≡ h → p < 1024
+          → a₁ ≡ put a (2816 + (c - 1) * 2) top.0 (top.1 - 1) → a₂ ≡ put a₁ (256 + p * 2) x.0 x.1
           → (got (stack_of a₂ (counts (h - 1) (p + 1) c)) gone ≡ taken (stack_of a s)) × OutsideStack a a₂
       pop_at a₁ a₂ e l e₁ e₂ =
-          let t : Top h p top.first top.second (debt (marks (c - 1))) = top_is cz top et in
-          let o₁ : Outside (2816 + (c - 1) * 2) (2816 + (c - 1) * 2 + 2) a a₁ = rw e₁ (outside_put a (2816 + (c - 1) * 2) top.first (top.second - 1)) in
-          let o₂ : Outside (256 + p * 2) (256 + p * 2 + 2) a₁ a₂ = rw e₂ (outside_put a₁ (256 + p * 2) x.first x.second) in
+          let t : Top h p top.0 top.1 (debt (marks (c - 1))) = top_is cz top et in
+          let o₁ : Outside (2816 + (c - 1) * 2) (2816 + (c - 1) * 2 + 2) a a₁ = rw e₁ (outside_put a (2816 + (c - 1) * 2) top.0 (top.1 - 1)) in
+          let o₂ : Outside (256 + p * 2) (256 + p * 2 + 2) a₁ a₂ = rw e₂ (outside_put a₁ (256 + p * 2) x.0 x.1) in
           let k : c ≡ suc (c - 1) = omega arith in
           let j : p + 1 ≡ suc p = omega arith in
           let cache₂ : pairs span a₂ 0 (h - 1) ≡ entries (h - 1) =
           sym (pairs_same span a a₁ 0 (h - 1) (same_below 0 (0 + (h - 1) * 2) (omega arith) o₁) ∙ pairs_same span a₁ a₂ 0 (h - 1) (same_below 0 (0 + (h - 1) * 2) (omega arith) o₂)) in
           let popped₂ : pairs span a₂ 256 (p + 1) ≡ gone ∷ owed p =
           ap₂ (λ (b : List ℕ) (m : ℕ). pairs span b 256 m) e₂ j
-          ∙ pairs_put span a₁ 256 p x.first x.second (omega (arith, o₁.size))
+          ∙ pairs_put span a₁ 256 p x.0 x.1 (omega (arith, o₁.size))
           ∙ ap₂ (λ (u : Span) (q : List Span). u ∷ q) (sym gone_is) (sym (pairs_same span a a₁ 256 p (same_below 256 (256 + p * 2) (omega arith) o₁))) in
-          let lengths₂ : pairs checkpoint a₂ 2816 c ≡ checkpoint top.first (top.second - 1) ∷ marks (c - 1) =
+          let lengths₂ : pairs checkpoint a₂ 2816 c ≡ checkpoint top.0 (top.1 - 1) ∷ marks (c - 1) =
           sym (pairs_same checkpoint a₁ a₂ 2816 c (same_above 2816 (2816 + c * 2) (omega arith) o₂))
           ∙ ap₂ (λ (b : List ℕ) (m : ℕ). pairs checkpoint b 2816 m) e₁ k
-          ∙ pairs_put checkpoint a 2816 (c - 1) top.first (top.second - 1) (omega arith) in (
+          ∙ pairs_put checkpoint a 2816 (c - 1) top.0 (top.1 - 1) (omega arith) in (
             ap (λ (v : Pest.Stack). got v gone) (pest_ext cache₂ popped₂ lengths₂)
-                ∙ rw (cache_is, lengths_is cz top et) (taken_at gone (entries (h - 1)) [] (owed p) (checkpoint top.first top.second) (marks (c - 1)) (low_len ∙ sym e) t.own (omega (arith, t.owing))),
+                ∙ rw (cache_is, lengths_is cz top et) (taken_at gone (entries (h - 1)) [] (owed p) (checkpoint top.0 top.1) (marks (c - 1)) (low_len ∙ sym e) t.own (omega (arith, t.owing))),
             stack_trans (stack_above (omega arith) (omega arith) o₁) (stack_below (omega arith) o₂),
           )
 
-      full_at : top.second ≡ h → 1024 ≤ p → (Take.full ≡ taken (stack_of a s)) × OutsideStack a a
+      full_at : top.1 ≡ h → 1024 ≤ p → (Take.full ≡ taken (stack_of a s)) × OutsideStack a a
       full_at e l =
-          let t : Top h p top.first top.second (debt (marks (c - 1))) = top_is cz top et in
+          let t : Top h p top.0 top.1 (debt (marks (c - 1))) = top_is cz top et in
           (rw (cache_is, lengths_is cz top et) (taken_full gone (entries (h - 1)) [] (owed p) _ _ (low_len ∙ sym e) t.own (omega (arith, t.owing))), stack_refl a)
 
-  pub pop_full : (h ≡ 0 → ⊥) → (x : Pair) → x ≡ pair a (0 + (h - 1) * 2) → (c ≡ 0 → ⊥) → (top : Pair) → top ≡ pair a (2816 + (c - 1) * 2) → top.second ≡ h → 1024 ≤ p
+  pub pop_full : (h ≡ 0 → ⊥) → (x : ℕ × ℕ) → x ≡ pair a (0 + (h - 1) * 2) → (c ≡ 0 → ⊥) → (top : ℕ × ℕ) → top ≡ pair a (2816 + (c - 1) * 2) → top.1 ≡ h → 1024 ≤ p
       → (Take.full ≡ taken (stack_of a s)) × OutsideStack a a
-  pop_full hz x ex cz top et e l = full_at hz x ex (record { start = record { 0 = x.first }; end = record { 0 = x.second } }) (refl, refl) cz top et e l
+  pop_full hz x ex cz top et e l = full_at hz x ex (record { start = record { 0 = x.0 }; end = record { 0 = x.1 } }) (refl, refl) cz top et e l
 
   -- ── clear_snapshot ──
   pub clear_none : c ≡ 0 → (stack_of a s ≡ clear_snapshot (stack_of a s)) × OutsideStack a a
   unfolding pairs
   clear_none e = (rw e, stack_refl a)
 
-  module _ (cz : c ≡ 0 → ⊥) (top : Pair) (et : top ≡ pair a (2816 + (c - 1) * 2)) where
+  module _ (cz : c ≡ 0 → ⊥) (top : ℕ × ℕ) (et : top ≡ pair a (2816 + (c - 1) * 2)) where
     -- What the innermost checkpoint owes, dropped.
-    left_is : owed (p - (top.first - top.second)) ≡ drop (top.first - top.second) (owed p)
+    left_is : owed (p - (top.0 - top.1)) ≡ drop (top.0 - top.1) (owed p)
     left_is =
-        let t : Top h p top.first top.second (debt (marks (c - 1))) = top_is cz top et in
-        sym (pairs_drop span a 256 (top.first - top.second) p (p - (top.first - top.second)) (omega (arith, t.owing)))
+        let t : Top h p top.0 top.1 (debt (marks (c - 1))) = top_is cz top et in
+        sym (pairs_drop span a 256 (top.0 - top.1) p (p - (top.0 - top.1)) (omega (arith, t.owing)))
 
-    pub clear_one : c ≡ 1 → (stack_of a (counts h (p - (top.first - top.second)) 0) ≡ clear_snapshot (stack_of a s)) × OutsideStack a a
+    pub clear_one : c ≡ 1 → (stack_of a (counts h (p - (top.0 - top.1)) 0) ≡ clear_snapshot (stack_of a s)) × OutsideStack a a
     unfolding pairs
     clear_one e =
         let last : marks (c - 1) ≡ [] = rw e in
         (rw (lengths_is cz top et, last) (pest_ext refl left_is refl), stack_refl a)
 
-    module _ (more : c ≡ 1 → ⊥) (outer : Pair) (eo : outer ≡ pair a (2816 + (c - 2) * 2)) where
-      outer_is : marks (c - 1) ≡ checkpoint outer.first outer.second ∷ marks (c - 2)
+    module _ (more : c ≡ 1 → ⊥) (outer : ℕ × ℕ) (eo : outer ≡ pair a (2816 + (c - 2) * 2)) where
+      outer_is : marks (c - 1) ≡ checkpoint outer.0 outer.1 ∷ marks (c - 2)
       outer_is = rw eo (pairs_last checkpoint a 2816 (c - 1) (c - 2) (omega arith))
 
-      pub outer_top : Top top.first (debt (marks (c - 1))) outer.first outer.second (debt (marks (c - 2)))
+      pub outer_top : Top top.0 (debt (marks (c - 1))) outer.0 outer.1 (debt (marks (c - 2)))
       outer_top =
-          let g : Fits top.first (marks (c - 1)) = below_fits (rw (lengths_is cz top et) at fits_is) in
+          let g : Fits top.0 (marks (c - 1)) = below_fits (rw (lengths_is cz top et) at fits_is) in
           top_fits (debt (marks (c - 1))) (rw outer_is at g) (ap debt outer_is)
 
       cleared_is : clear_snapshot (stack_of a s)
-          ≡ pest (entries h) (take (outer.second - min outer.second top.second) (owed p) ++ drop (top.first - top.second) (owed p)) (checkpoint outer.first (min outer.second top.second) ∷ marks (c - 2))
+          ≡ pest (entries h) (take (outer.1 - min outer.1 top.1) (owed p) ++ drop (top.0 - top.1) (owed p)) (checkpoint outer.0 (min outer.1 top.1) ∷ marks (c - 2))
       cleared_is = rw (lengths_is cz top et, outer_is)
 
-      -- The outer checkpoint has been as low: it keeps nothing more.
-      pub clear_all : outer.second ≤ top.second → (stack_of a (counts h (p - (top.first - top.second)) (c - 1)) ≡ clear_snapshot (stack_of a s)) × OutsideStack a a
-      clear_all l =
-          let m : min outer.second top.second ≡ outer.second = omega arith in
-          let z : outer.second - min outer.second top.second ≡ 0 = omega arith in (
-            pest_ext refl
-                (left_is ∙ ap (λ (n : ℕ). take n (owed p) ++ drop (top.first - top.second) (owed p)) (sym z))
-                (outer_is ∙ ap (λ (n : ℕ). checkpoint outer.first n ∷ marks (c - 2)) (sym m))
-                ∙ sym cleared_is,
-            stack_refl a,
-          )
-
-      pub clear_some : (a₁ a₂ : List ℕ) → top.second < outer.second → a₁ ≡ put a (2816 + (c - 2) * 2) outer.first top.second
-          → a₂ ≡ drained a₁ (p - (top.first - top.second)) (p - (outer.second - top.second)) (outer.second - top.second)
-          → (stack_of a₂ (counts h (p - (top.first - top.second) + (outer.second - top.second)) (c - 1)) ≡ clear_snapshot (stack_of a s)) × OutsideStack a a₂
-      clear_some a₁ a₂ l e₁ e₂ =
-          let t : Top h p top.first top.second (debt (marks (c - 1))) = top_is cz top et in
-          let t₁ : Top top.first (debt (marks (c - 1))) outer.first outer.second (debt (marks (c - 2))) = outer_top in
-          let to : ℕ = p - (top.first - top.second) in
-          let from : ℕ = p - (outer.second - top.second) in
-          let n : ℕ = outer.second - top.second in
+      pub clear_more : (a₁ a₂ : List ℕ) (low n : ℕ) → low ≡ min outer.1 top.1 → n ≡ outer.1 - top.1 → a₁ ≡ put a (2816 + (c - 2) * 2) outer.0 low
+          → Drained a₁ a₂ (p - (top.0 - top.1)) (p - n) n
+          → (stack_of a₂ (counts h (p - (top.0 - top.1) + n) (c - 1)) ≡ clear_snapshot (stack_of a s)) × OutsideStack a a₂
+      clear_more a₁ a₂ low n m k₁ e₁ d =
+          let t : Top h p top.0 top.1 (debt (marks (c - 1))) = top_is cz top et in
+          let t₁ : Top top.0 (debt (marks (c - 1))) outer.0 outer.1 (debt (marks (c - 2))) = outer_top in
+          let to : ℕ = p - (top.0 - top.1) in
+          let from : ℕ = p - n in
+          let k₀ : n ≡ outer.1 - low = omega arith in
           let hn : from + n ≡ p = omega (arith, t.owing, t₁.under) in
           let ht : to ≤ from = omega (arith, t.owing, t₁.under) in
           let hs : to + n ≤ p = omega (arith, t.owing, t₁.under) in
-          let o₁ : Outside (2816 + (c - 2) * 2) (2816 + (c - 2) * 2 + 2) a a₁ = rw e₁ (outside_put a (2816 + (c - 2) * 2) outer.first top.second) in
-          let o₂ : Outside (256 + to * 2) (256 + (to + n) * 2) a₁ a₂ = rw e₂ (drained_outside a₁ to from n) in
-          let m : min outer.second top.second ≡ top.second = omega arith in
+          let o₁ : Outside (2816 + (c - 2) * 2) (2816 + (c - 2) * 2 + 2) a a₁ = rw e₁ (outside_put a (2816 + (c - 2) * 2) outer.0 low) in
+          let o₂ : Outside (256 + to * 2) (256 + (to + n) * 2) a₁ a₂ = drained_outside a₁ a₂ to from n d in
           let k : c - 1 ≡ suc (c - 2) = omega arith in
           let same₁ : (j : ℕ) → j ≤ p → pairs span a₁ 256 j ≡ owed j = λ j hj. sym (pairs_same span a a₁ 256 j (same_below 256 (256 + j * 2) (omega arith) o₁)) in
           let cache₂ : pairs span a₂ 0 h ≡ entries h =
           sym (pairs_same span a a₁ 0 h (same_below 0 (0 + h * 2) (omega arith) o₁) ∙ pairs_same span a₁ a₂ 0 h (same_below 0 (0 + h * 2) (omega arith) o₂)) in
-          let popped₂ : pairs span a₂ 256 (to + n) ≡ take n (owed p) ++ drop (top.first - top.second) (owed p) =
-          ap (λ (b : List ℕ). pairs span b 256 (to + n)) e₂
-          ∙ drained_pairs a₁ to from n ht (omega arith) (omega (arith, o₁.size))
+          let popped₂ : pairs span a₂ 256 (to + n) ≡ take n (owed p) ++ drop (top.0 - top.1) (owed p) =
+          drained_pairs a₁ a₂ to from n n d (omega arith)
           ∙ ap₂ (λ (q q' : List Span). take n q ++ q') (ap (λ (j : ℕ). pairs span a₁ 256 j) hn ∙ same₁ p (omega arith)) (same₁ to (omega arith) ∙ left_is) in
-          let lengths₂ : pairs checkpoint a₂ 2816 (c - 1) ≡ checkpoint outer.first top.second ∷ marks (c - 2) =
+          let lengths₂ : pairs checkpoint a₂ 2816 (c - 1) ≡ checkpoint outer.0 low ∷ marks (c - 2) =
           sym (pairs_same checkpoint a₁ a₂ 2816 (c - 1) (same_above 2816 (2816 + (c - 1) * 2) (omega arith) o₂))
           ∙ ap₂ (λ (b : List ℕ) (j : ℕ). pairs checkpoint b 2816 j) e₁ k
-          ∙ pairs_put checkpoint a 2816 (c - 2) outer.first top.second (omega arith) in (
+          ∙ pairs_put checkpoint a 2816 (c - 2) outer.0 low (omega arith) in (
             pest_ext cache₂
-                (popped₂ ∙ ap (λ (j : ℕ). take (outer.second - j) (owed p) ++ drop (top.first - top.second) (owed p)) (sym m))
-                (lengths₂ ∙ ap (λ (j : ℕ). checkpoint outer.first j ∷ marks (c - 2)) (sym m))
+                (popped₂ ∙ ap (λ (j : ℕ). take j (owed p) ++ drop (top.0 - top.1) (owed p)) (k₀ ∙ ap (λ (j : ℕ). outer.1 - j) m))
+                (lengths₂ ∙ ap (λ (j : ℕ). checkpoint outer.0 j ∷ marks (c - 2)) m)
                 ∙ sym cleared_is,
             stack_trans (stack_above (omega arith) (omega arith) o₁) (stack_below (omega arith) o₂),
           )
 
     -- ── restore ──
-    kept_is : (if ltb top.second (length (entries h)) then truncate top.second (entries h) else entries h) ≡ entries top.second
-    kept_is = go (dec_lt top.second h)
+    kept_is : (if ltb top.1 (length (entries h)) then truncate top.1 (entries h) else entries h) ≡ entries top.1
+    kept_is = go (dec_lt top.1 h)
       where
-        go : Dec (top.second < h) → (if ltb top.second (length (entries h)) then truncate top.second (entries h) else entries h) ≡ entries top.second
-        go (yes l) = rw (pairs_length span a 0 h, lt-ltb top.second h l) (pairs_drop span a 0 (h - top.second) h top.second (omega arith))
+        go : Dec (top.1 < h) → (if ltb top.1 (length (entries h)) then truncate top.1 (entries h) else entries h) ≡ entries top.1
+        go (yes l) = rw (pairs_length span a 0 h, lt-ltb top.1 h l) (pairs_drop span a 0 (h - top.1) h top.1 (omega arith))
         go (no n) =
-            let t : Top h p top.first top.second (debt (marks (c - 1))) = top_is cz top et in
-            let e : h ≡ top.second = omega (arith, t.under) in
-            rw (pairs_length span a 0 h, le-ltb top.second h (omega arith)) (ap (λ (m : ℕ). entries m) e)
+            let t : Top h p top.0 top.1 (debt (marks (c - 1))) = top_is cz top et in
+            let e : h ≡ top.1 = omega (arith, t.under) in
+            rw (pairs_length span a 0 h, le-ltb top.1 h (omega arith)) (ap (λ (m : ℕ). entries m) e)
 
-    restored_is : restore (stack_of a s) ≡ pest (reverse (take (top.first - top.second) (owed p)) ++ entries top.second) (drop (top.first - top.second) (owed p)) (marks (c - 1))
-    restored_is = rw (lengths_is cz top et, kept_is) (restored_pick top.first top.second (owed p) (entries top.second) (marks (c - 1)) (dec_lt top.second top.first))
+    restored_is : restore (stack_of a s) ≡ pest (reverse (take (top.0 - top.1) (owed p)) ++ entries top.1) (drop (top.0 - top.1) (owed p)) (marks (c - 1))
+    restored_is = rw (lengths_is cz top et, kept_is) (restored_pick top.0 top.1 (owed p) (entries top.1) (marks (c - 1)) (dec_lt top.1 top.0))
 
-    pub restore_ok : (a' : List ℕ) → a' ≡ refilled a top.second p (top.first - top.second)
-        → (stack_of a' (counts top.first (p - (top.first - top.second)) (c - 1)) ≡ restore (stack_of a s)) × OutsideStack a a'
+    pub restore_ok : (a' : List ℕ) → a' ≡ refilled a top.1 p (top.0 - top.1)
+        → (stack_of a' (counts top.0 (p - (top.0 - top.1)) (c - 1)) ≡ restore (stack_of a s)) × OutsideStack a a'
     restore_ok a' e =
-        let t : Top h p top.first top.second (debt (marks (c - 1))) = top_is cz top et in
-        let n : ℕ = top.first - top.second in
-        let o : Outside (0 + top.second * 2) (0 + (top.second + n) * 2) a a' = rw e (refilled_outside a top.second p n) in
-        let j : top.first ≡ top.second + n = omega (arith, t.own) in (
+        let t : Top h p top.0 top.1 (debt (marks (c - 1))) = top_is cz top et in
+        let n : ℕ = top.0 - top.1 in
+        let o : Outside (0 + top.1 * 2) (0 + (top.1 + n) * 2) a a' = rw e (refilled_outside a top.1 p n) in
+        let j : top.0 ≡ top.1 + n = omega (arith, t.own) in (
           pest_ext
-              (ap₂ (λ (b : List ℕ) (m : ℕ). pairs span b 0 m) e j ∙ refilled_pairs a top.second p n (omega (arith, t.owing)) (omega (arith, t.high)) r.room)
+              (ap₂ (λ (b : List ℕ) (m : ℕ). pairs span b 0 m) e j ∙ refilled_pairs a top.1 p n (omega (arith, t.owing)) (omega (arith, t.high)) r.room)
               (sym (pairs_same span a a' 256 (p - n) (same_above 256 (256 + (p - n) * 2) (omega (arith, t.high)) o)) ∙ left_is)
               (sym (pairs_same checkpoint a a' 2816 (c - 1) (same_above 2816 (2816 + (c - 1) * 2) (omega (arith, t.high)) o)))
               ∙ sym restored_is,

@@ -1,41 +1,37 @@
 -- A state whose stack was changed in scratch: the rest of what the state stands for is as it was, so that each combinator over the stack
 -- comes down to what the stack's function answered.
 use Rattle.std.specs.Prelude.{if◌then◌else◌}
+use Rattle.std.specs.Prelude.{option_map, Result}
 use mathlib.Core.Path.{◌≡◌, refl, sym, ap, ap₂, ◌∙◌}
-use mathlib.Core.Bool.{Bool, true, false, cond, ◌||◌}
+use mathlib.Core.Bool.{Bool, true, false, ◌||◌}
 use mathlib.Core.List.{List, [], ◌∷◌}
-use mathlib.Core.Option.{Option, none, some}
-use Prim.Native.Nat.{ℕ, suc, ◌-◌, ◌≤◌, ◌<◌}
+use Rattle.std.specs.Prelude.{Option, None, Some}
+use Prim.Native.Nat.{ℕ, ◌≤◌, ◌<◌}
 use native.Mathlib.Omega.{arith}
-use lib.IntN.{ℤ, pos, negsuc}
+use lib.IntN.{ℤ}
 use lib.ListN.{length}
 use lib.Dec.{ltb, leb, eqb}
-use borrow.Author.Tests.{le-leb, lt-leb, ltb-false, le-ltb}
+use borrow.Author.Tests.{le-leb, lt-leb, le-ltb}
 use Rattle.matching.specs.declared.span.Span as Code
 use Rattle.matching.specs.Answers.{matched}
 use Rattle.matching.specs.Position.{match_string, bytes_of}
 use Rattle.matching.specs.declared.position.BytePosition.{BytePosition}
-use Rattle.matching.specs.declared.position.Matched.{Matched}
 use Rattle.reading.specs.declared.parser_state.Ending as Code·ending
 use Rattle.reading.specs.Pest as Pest
 use Rattle.engine.specs.declared.stack.Stack.{Stack}
-use Rattle.engine.specs.declared.stack.Pushed.{Pushed}
-use Rattle.engine.specs.declared.stack.Popped.{Popped}
-use Rattle.checks.specs.declared.node.Index.{Index}
-use Rattle.engine.specs.declared.stack_match.MatchPopped.{MatchPopped}
+use Rattle.engine.specs.declared.stack.Unpopped.{Unpopped}
 use Rattle.engine.specs.Fields as Fields
-use Rattle.engine.specs.Fields.{ParserState}
+use Rattle.engine.specs.declared.parser_state.ParserState.{ParserState}
 use Rattle.reading.specs.declared.parser_state.Cause.TheVariants.{EmptyStack, StackFull}
 use Rattle.reading.specs.Ending.{Ending, Ok, Err, Stop, stop_if, Span}
 use Rattle.reading.specs.Reading.{debt}
 use Rattle.reading.specs.Pest.{set_position, set_stack, push, pop, as_str, moved, stack_pop, stack_match_pop, stack_match_peek_slice, normalize_index, normalize_end, slice, all_match}
 use Rattle.engine.specs.Areas.{span, stack_of, view, view_end}
-use Rattle.engine.specs.Bounded.{Push, kept, Take, got, pushed, taken, taken_from, push_of, take_of}
+use Rattle.engine.specs.Bounded.{Take, got, pushed, taken, taken_from, take_of}
 use Rattle.reading.specs.Sound.{Sound}
-use Rattle.engine.specs.StackReady.{StackReady, StateReady, OutsideStack}
+use Rattle.engine.specs.StackReady.{StateReady, OutsideStack}
 use Rattle.engine.specs.StackMatch.{match_of, match_end}
 use Rattle.reading.specs.Reading.{index_in, end_in}
-use Rattle.checks.specs.PeekIndex.{index_of}
 use Rattle.checks.proofs.IndexLaws.{pest_index, pest_end}
 use Rattle.engine.proofs.Regions.{pairs_length, numbers_length}
 use Rattle.engine.proofs.ReadyLaws.{positives_kept, negatives_kept, ready_of}
@@ -71,53 +67,32 @@ module _ {a b : List ℕ} {s t : ParserState} (r : StateReady a s) (o : OutsideS
       ap (view tokens b) et
       ∙ (λ i. with_parts (view tokens a s) (positives_kept a b o s.attempts.positives r.positives i) (negatives_kept a b o s.attempts.negatives r.negatives i) (e i))
 
--- v is the stack that the code read.
-pub stack_read : {a : List ℕ} {s : ParserState} {v : Stack} → v ≡ s.stack → StateReady a s → StackReady a v
-stack_read e r = rw e r.stack
-
-pub position_read : {y p : BytePosition} {n : ℕ} → y ≡ p → p.0 ≤ n → y.0 ≤ n
-position_read e l = rw e l
-
 -- checkpoint, checkpoint_ok, restored
 pub stack_changed : (f : Pest.Stack → Pest.Stack) {a b : List ℕ} {s t : ParserState} {v : Stack} (w : Stack) → StateReady a s → v ≡ s.stack → (stack_of b w ≡ f (stack_of a v)) × OutsideStack a b
     → t ≡ Fields.set_stack w s → ((tokens : List ℕ) → view tokens b t ≡ set_stack (f (stack_of a s.stack)) (view tokens a s)) × OutsideStack a b
 stack_changed f {a} {b} {s} w r ev e et = (view_stack r e.1 w (f (stack_of a s.stack)) (e.0 ∙ ap (λ (u : Stack). f (stack_of a u)) ev) et, e.1)
 
 -- ── moved ──
-pub moved_at : (m : Matched) (p : BytePosition) (s t : ParserState) → m ≡ Matched.At p → t ≡ Fields.set_position p s → (tokens scratch : List ℕ) → Ok (view tokens scratch t) ≡ moved (match_of m) (view tokens scratch s)
-moved_at m p s t e et tokens scratch = rw (e, et)
-
-pub moved_not : (m : Matched) (s : ParserState) → m ≡ Matched.Failed → (tokens scratch : List ℕ) → Err (view tokens scratch s) ≡ moved (match_of m) (view tokens scratch s)
-moved_not m s e tokens scratch = rw e
-
 matched_back : (o : Option ℕ) → match_of (matched o) ≡ o
-matched_back none = refl
-matched_back (some p) = refl
+matched_back None = refl
+matched_back (Some p) = refl
 
 -- ── stack_push ──
 module _ {a b : List ℕ} {s : ParserState} (r : StateReady a s) {v : Stack} (ev : v ≡ s.stack) {y : BytePosition} (ey : y ≡ s.position)
-    (x : ℕ) (p : Pushed) (e : (push_of b p ≡ pushed (span x y.0) (stack_of a v)) × OutsideStack a b) (line : ℕ) where
+    (x : ℕ) (p : Option Stack) (e : (option_map (stack_of b) p ≡ pushed (span x y.0) (stack_of a v)) × OutsideStack a b) (line : ℕ) where
   abbrev after : Pest.Stack
   after = push (span x s.position.0) (stack_of a s.stack)
 
-  said : push_of b p ≡ pushed (span x s.position.0) (stack_of a s.stack)
+  said : option_map (stack_of b) p ≡ pushed (span x s.position.0) (stack_of a s.stack)
   said = e.0 ∙ ap₂ (λ (u : Stack) (n : BytePosition). pushed (span x n.0) (stack_of a u)) ev ey
 
-  pub push_kept : (w : Stack) → p ≡ Pushed.Kept w → {t : ParserState} → t ≡ Fields.set_stack w s
+  pub push_kept : (w : Stack) → p ≡ Some w → {t : ParserState} → t ≡ Fields.set_stack w s
       → ((tokens : List ℕ) → Ok (view tokens b t) ≡ stop_if (leb 128 (length (stack_of a s.stack).cache)) (StackFull line) (λ _. Ok (set_stack after (view tokens a s)))) × OutsideStack a b
   push_kept w f {t} et = (λ tokens. go tokens (leb 128 (length (stack_of a s.stack).cache)) (rw f at said), e.1)
     where
-      go : (tokens : List ℕ) (b₀ : Bool) → kept (stack_of b w) ≡ (if b₀ then Push.full else kept after) → Ok (view tokens b t) ≡ stop_if b₀ (StackFull line) (λ _. Ok (set_stack after (view tokens a s)))
+      go : (tokens : List ℕ) (b₀ : Bool) → Some (stack_of b w) ≡ (if b₀ then None else Some after) → Ok (view tokens b t) ≡ stop_if b₀ (StackFull line) (λ _. Ok (set_stack after (view tokens a s)))
       go tokens true q = let z : ◌≡◌ {A = ℕ} 0 1 = cc in absurd (omega arith)
       go tokens false q = let u : stack_of b w ≡ after = cc in ap Ok (view_stack r e.1 w after u et tokens)
-
-  pub push_stopped : p ≡ Pushed.Full
-      → ((tokens : List ℕ) → Stop (StackFull line) ≡ stop_if (leb 128 (length (stack_of a s.stack).cache)) (StackFull line) (λ _. Ok (set_stack after (view tokens a s)))) × OutsideStack a b
-  push_stopped f = (λ tokens. go tokens (leb 128 (length (stack_of a s.stack).cache)) (rw f at said), e.1)
-    where
-      go : (tokens : List ℕ) (b₀ : Bool) → Push.full ≡ (if b₀ then Push.full else kept after) → Stop (StackFull line) ≡ stop_if b₀ (StackFull line) (λ _. Ok (set_stack after (view tokens a s)))
-      go tokens true q = refl
-      go tokens false q = let z : ◌≡◌ {A = ℕ} 0 1 = cc in absurd (omega arith)
 
 -- ── stack_pop ──
 module _ (text : List ℕ) (line : ℕ) (m : Pest.ParserState) where
@@ -157,12 +132,12 @@ module _ (text : List ℕ) (line : ℕ) (m : Pest.ParserState) where
           (λ _. moved (Pest.match_string text (as_str text y) m.position) (set_stack (pop y rest m.stack) m)) e
 
 module _ (text : List ℕ) (line : ℕ) {a b : List ℕ} {s : ParserState} (r : StateReady a s) {v : Stack} (ev : v ≡ s.stack)
-    (p : Popped) (e : (take_of b p ≡ taken (stack_of a v)) × OutsideStack a b) where
+    (p : Result (Stack × Code.Span) Unpopped) (e : (take_of b p ≡ taken (stack_of a v)) × OutsideStack a b) where
   took_of : take_of b p ≡ taken (stack_of a s.stack)
   took_of = e.0 ∙ ap (λ (u : Stack). taken (stack_of a u)) ev
 
-  pub pop_moved : (w : Stack) (x : Code.Span) → p ≡ Popped.Got w x → {t : ParserState} → t ≡ Fields.set_stack w s → (bytes : List ℕ) → bytes ≡ bytes_of text x.start.0 x.end.0
-      → {y : BytePosition} → y ≡ s.position → (q : Matched) → q ≡ matched (match_string text bytes y.0)
+  pub pop_moved : (w : Stack) (x : Code.Span) → p ≡ Result.Ok (w, x) → {t : ParserState} → t ≡ Fields.set_stack w s → (bytes : List ℕ) → bytes ≡ bytes_of text x.start.0 x.end.0
+      → {y : BytePosition} → y ≡ s.position → (q : Option BytePosition) → q ≡ matched (match_string text bytes y.0)
       → (end : ParserState) (z : Code·ending.Ending) → ((tokens scratch : List ℕ) → view_end tokens scratch end z ≡ moved (match_of q) (view tokens scratch t))
       → ((tokens : List ℕ) → view_end tokens b end z ≡ stack_pop text true line (stack_of a s.stack).cache (view tokens a s)) × OutsideStack a b
   pop_moved w x f et bytes eb {y} ey q eq end z ez = (
@@ -175,104 +150,70 @@ module _ (text : List ℕ) (line : ℕ) {a b : List ℕ} {s : ParserState} (r : 
     e.1,
   )
 
-  pub pop_stopped : p ≡ Popped.Empty → ((tokens : List ℕ) → Stop (EmptyStack line) ≡ stack_pop text true line (stack_of a s.stack).cache (view tokens a s)) × OutsideStack a b
-  pop_stopped f = (λ tokens. step_empty text line (view tokens a s) (rw f at took_of), e.1)
-
-  pub pop_indebted : p ≡ Popped.Full → ((tokens : List ℕ) → Stop (StackFull line) ≡ stack_pop text true line (stack_of a s.stack).cache (view tokens a s)) × OutsideStack a b
-  pop_indebted f = (λ tokens. step_full text line (view tokens a s) (rw f at took_of), e.1)
-
 -- ── stack_match_pop ──
-module _ (text : List ℕ) (line : ℕ) {a b : List ℕ} {s : ParserState} (r : StateReady a s) {v : Stack} (ev : v ≡ s.stack) {y : BytePosition} (ey : y ≡ s.position) (p : MatchPopped)
+module _ (text : List ℕ) (line : ℕ) {a b : List ℕ} {s : ParserState} (r : StateReady a s) {v : Stack} (ev : v ≡ s.stack) {y : BytePosition} (ey : y ≡ s.position) (p : Option (Stack × Option BytePosition))
     (e : ((l : ℕ) → (m : Pest.ParserState) → match_end b l m p ≡ stack_match_pop text true l (stack_of a v).cache y.0 (set_stack (stack_of a v) m)) × OutsideStack a b) where
   ends : (tokens : List ℕ) → match_end b line (view tokens a s) p ≡ stack_match_pop text true line (stack_of a s.stack).cache s.position.0 (view tokens a s)
   ends tokens =
       e.0 line (view tokens a s)
       ∙ ap₂ (λ (u : Stack) (n : BytePosition). stack_match_pop text true line (stack_of a u).cache n.0 (set_stack (stack_of a u) (view tokens a s))) ev ey
 
-  pub popped_all : (w : Stack) (q : BytePosition) → p ≡ MatchPopped.Matched w q → {t : ParserState} → t ≡ Fields.set_stack w s → {u : ParserState} → u ≡ Fields.set_position q t
-      → ((tokens : List ℕ) → Ok (view tokens b u) ≡ stack_match_pop text true line (stack_of a s.stack).cache s.position.0 (view tokens a s)) × OutsideStack a b
-  popped_all w q f et eu = (
+  pub popped_some : (w : Stack) (q : Option BytePosition) → p ≡ Some (w, q) → {t : ParserState} → t ≡ Fields.set_stack w s
+      → (end : ParserState) (z : Code·ending.Ending) → ((tokens scratch : List ℕ) → view_end tokens scratch end z ≡ moved (match_of q) (view tokens scratch t))
+      → ((tokens : List ℕ) → view_end tokens b end z ≡ stack_match_pop text true line (stack_of a s.stack).cache s.position.0 (view tokens a s)) × OutsideStack a b
+  popped_some w q f et end z ez = (
     λ tokens.
-        ap (λ (u : ParserState). Ok (view tokens b u)) eu
-        ∙ ap (λ (m : Pest.ParserState). Ok (set_position q.0 m)) (view_stack r e.1 w (stack_of b w) refl et tokens)
+        ez tokens b
+        ∙ ap (moved (match_of q)) (view_stack r e.1 w (stack_of b w) refl et tokens)
         ∙ sym (ap (match_end b line (view tokens a s)) f)
         ∙ ends tokens,
     e.1,
   )
 
-  pub popped_some : (w : Stack) → p ≡ MatchPopped.Failed w → {t : ParserState} → t ≡ Fields.set_stack w s
-      → ((tokens : List ℕ) → Err (view tokens b t) ≡ stack_match_pop text true line (stack_of a s.stack).cache s.position.0 (view tokens a s)) × OutsideStack a b
-  popped_some w f et = (
-    λ tokens.
-        ap Err (view_stack r e.1 w (stack_of b w) refl et tokens)
-        ∙ sym (ap (match_end b line (view tokens a s)) f)
-        ∙ ends tokens,
-    e.1,
-  )
-
-  pub popped_indebted : p ≡ MatchPopped.Full
+  pub popped_indebted : p ≡ None
       → ((tokens : List ℕ) → Stop (StackFull line) ≡ stack_match_pop text true line (stack_of a s.stack).cache s.position.0 (view tokens a s)) × OutsideStack a b
   popped_indebted f = (λ tokens. sym (ap (match_end b line (view tokens a s)) f) ∙ ends tokens, e.1)
 
 -- ── stack_match_peek_slice ──
-index_at : (o : Option ℕ) (r : Index) (n : ℕ) → r ≡ index_of o → r ≡ Index.At n → o ≡ some n
-index_at none r n e f = let z : ◌≡◌ {A = ℕ} 0 1 = cc in absurd (omega arith)
-index_at (some k) r n e f = let g : k ≡ n = cc in ap some g
+index_at : (o r : Option ℕ) (n : ℕ) → r ≡ o → r ≡ Some n → o ≡ Some n
+index_at o r n e f = sym e ∙ f
 
-index_out : (o : Option ℕ) (r : Index) → r ≡ index_of o → r ≡ Index.Outside → o ≡ none
-index_out none r e f = refl
-index_out (some k) r e f = let z : ◌≡◌ {A = ℕ} 0 1 = cc in absurd (omega arith)
-
--- A normalised index is at most the height.
-normal_inside : (i : ℤ) (len n : ℕ) → normalize_index i len ≡ some n → n ≤ len
-normal_inside (pos k) len n e = go (ltb len k) refl e
-  where
-    go : (b : Bool) → ltb len k ≡ b → (if b then none else some k) ≡ some n → n ≤ len
-    go true t e = let z : ◌≡◌ {A = ℕ} 0 1 = cc in absurd (omega arith)
-    go false t e = let g : k ≡ n = cc in omega (arith, ltb-false len k t)
-normal_inside (negsuc k) len n e = go (ltb len (suc k)) e
-  where
-    go : (b : Bool) → Pest.in_range (cond b (negsuc (suc k - suc len)) (pos (len - suc k))) ≡ some n → n ≤ len
-    go true e = let z : ◌≡◌ {A = ℕ} 0 1 = cc in absurd (omega arith)
-    go false e = let g : len - suc k ≡ n = cc in omega arith
-
-end_inside : (j : Option ℤ) (len n : ℕ) → normalize_end j len ≡ some n → n ≤ len
-end_inside none len n e = let g : len ≡ n = cc in omega arith
-end_inside (some i) len n e = normal_inside i len n e
+index_out : (o r : Option ℕ) → r ≡ o → r ≡ None → o ≡ None
+index_out o r e f = sym e ∙ f
 
 module _ (text : List ℕ) (i : ℤ) (j : Option ℤ) (d : Bool) (m : Pest.ParserState) (h : ℕ) (eh : length m.stack.cache ≡ h) where
   abbrev sliced : Option ℕ → Option ℕ → Ending Pest.ParserState
   sliced o q =
       elim o [
-        | none ↦ Err m
-        | some start ↦
+        | None ↦ Err m
+        | Some start ↦
             elim q [
-              | none ↦ Err m
-              | some end ↦ elim (leb end start) [ true ↦ Ok m | false ↦ moved (all_match text (slice start end d m.stack.cache) m.position) m ]
+              | None ↦ Err m
+              | Some end ↦ elim (leb end start) [ true ↦ Ok m | false ↦ moved (all_match text (slice start end d m.stack.cache) m.position) m ]
             ]
       ]
 
   peek_is : (o q : Option ℕ) → normalize_index i h ≡ o → normalize_end j h ≡ q → stack_match_peek_slice text i j d m ≡ sliced o q
   peek_is o q e f = ap₂ sliced (ap (normalize_index i) eh ∙ e) (ap (normalize_end j) eh ∙ f)
 
-  peek_start_out : normalize_index i h ≡ none → Err m ≡ stack_match_peek_slice text i j d m
-  peek_start_out e = sym (peek_is none (normalize_end j h) e refl)
+  peek_start_out : normalize_index i h ≡ None → Err m ≡ stack_match_peek_slice text i j d m
+  peek_start_out e = sym (peek_is None (normalize_end j h) e refl)
 
-  module _ (start : ℕ) (e : normalize_index i h ≡ some start) where
-    peek_end_out : normalize_end j h ≡ none → Err m ≡ stack_match_peek_slice text i j d m
-    peek_end_out f = sym (peek_is (some start) none e f)
+  module _ (start : ℕ) (e : normalize_index i h ≡ Some start) where
+    peek_end_out : normalize_end j h ≡ None → Err m ≡ stack_match_peek_slice text i j d m
+    peek_end_out f = sym (peek_is (Some start) None e f)
 
-    module _ (end : ℕ) (f : normalize_end j h ≡ some end) where
+    module _ (end : ℕ) (f : normalize_end j h ≡ Some end) where
       peek_nothing : end ≤ start → Ok m ≡ stack_match_peek_slice text i j d m
-      peek_nothing l = sym (peek_is (some start) (some end) e f ∙ go (leb end start) (le-leb end start l))
+      peek_nothing l = sym (peek_is (Some start) (Some end) e f ∙ go (leb end start) (le-leb end start l))
         where
           go : (b : Bool) → b ≡ true → ◌≡◌ {A = Ending Pest.ParserState} (elim b [ true ↦ Ok m | false ↦ moved (all_match text (slice start end d m.stack.cache) m.position) m ]) (Ok m)
           go b t = rw t
 
-      peek_moved : start < end → (q : Matched) → q ≡ matched (all_match text (slice start end d m.stack.cache) m.position) → moved (match_of q) m ≡ stack_match_peek_slice text i j d m
+      peek_moved : start < end → (q : Option BytePosition) → q ≡ matched (all_match text (slice start end d m.stack.cache) m.position) → moved (match_of q) m ≡ stack_match_peek_slice text i j d m
       peek_moved l q eq =
           ap (λ (o : Option ℕ). moved o m) (ap match_of eq ∙ matched_back (all_match text (slice start end d m.stack.cache) m.position))
-          ∙ sym (peek_is (some start) (some end) e f ∙ go (leb end start) (lt-leb end start l))
+          ∙ sym (peek_is (Some start) (Some end) e f ∙ go (leb end start) (lt-leb end start l))
         where
           go : (b : Bool) → b ≡ false
               → ◌≡◌ {A = Ending Pest.ParserState} (elim b [ true ↦ Ok m | false ↦ moved (all_match text (slice start end d m.stack.cache) m.position) m ]) (moved (all_match text (slice start end d m.stack.cache) m.position) m)
@@ -280,38 +221,35 @@ module _ (text : List ℕ) (i : ℤ) (j : Option ℤ) (d : Bool) (m : Pest.Parse
 
 -- Fields b and c of kind 16.
 abbrev pub end_of : (c : ℕ) → (b : ℤ) → Option ℤ
-end_of c b = if ltb c 2 then some b else none
+end_of c b = if ltb c 2 then Some b else None
 
-module _ (text a : List ℕ) (i b : ℤ) (c : ℕ) (s : ParserState) (v : Stack) (ev : v ≡ s.stack) (r : Index) (er : r ≡ index_of (index_in v.height i)) where
+module _ (text a : List ℕ) (i b : ℤ) (c : ℕ) (s : ParserState) (v : Stack) (ev : v ≡ s.stack) {r : Option ℕ} (er : r ≡ index_in v.height i) where
   tall : (tokens : List ℕ) → length (view tokens a s).stack.cache ≡ v.height
   tall tokens = pairs_length span a 0 s.stack.height ∙ sym (ap (λ (u : Stack). u.height) ev)
 
   abbrev down : Bool
   down = eqb c 1 || eqb c 3
 
-  pub start_out : r ≡ Index.Outside → (tokens : List ℕ) → Err (view tokens a s) ≡ stack_match_peek_slice text i (end_of c b) down (view tokens a s)
+  pub start_out : r ≡ None → (tokens : List ℕ) → Err (view tokens a s) ≡ stack_match_peek_slice text i (end_of c b) down (view tokens a s)
   start_out f tokens = peek_start_out text i (end_of c b) down (view tokens a s) v.height (tall tokens) (index_out (normalize_index i v.height) r (pest_index i v.height er) f)
 
-  module _ (start : ℕ) (f : r ≡ Index.At start) (r₂ : Index) (er₂ : r₂ ≡ index_of (end_in v.height (end_of c b))) where
-    start_is : normalize_index i v.height ≡ some start
+  module _ {start : ℕ} (f : r ≡ Some start) {r₂ : Option ℕ} (er₂ : r₂ ≡ end_in v.height (end_of c b)) where
+    start_is : normalize_index i v.height ≡ Some start
     start_is = index_at (normalize_index i v.height) r start (pest_index i v.height er) f
 
-    pub end_out : r₂ ≡ Index.Outside → (tokens : List ℕ) → Err (view tokens a s) ≡ stack_match_peek_slice text i (end_of c b) down (view tokens a s)
+    pub end_out : r₂ ≡ None → (tokens : List ℕ) → Err (view tokens a s) ≡ stack_match_peek_slice text i (end_of c b) down (view tokens a s)
     end_out g tokens =
         peek_end_out text i (end_of c b) down (view tokens a s) v.height (tall tokens) start start_is (index_out (normalize_end (end_of c b) v.height) r₂ (pest_end (end_of c b) v.height er₂) g)
 
-    module _ (end : ℕ) (g : r₂ ≡ Index.At end) where
-      end_is : normalize_end (end_of c b) v.height ≡ some end
+    module _ {end : ℕ} (g : r₂ ≡ Some end) where
+      end_is : normalize_end (end_of c b) v.height ≡ Some end
       end_is = index_at (normalize_end (end_of c b) v.height) r₂ end (pest_end (end_of c b) v.height er₂) g
-
-      pub end_below : end ≤ v.height
-      end_below = end_inside (end_of c b) v.height end end_is
 
       pub slice_empty : end ≤ start → (tokens : List ℕ) → Ok (view tokens a s) ≡ stack_match_peek_slice text i (end_of c b) down (view tokens a s)
       slice_empty l tokens = peek_nothing text i (end_of c b) down (view tokens a s) v.height (tall tokens) start start_is end end_is l
 
       pub slice_moved : start < end → (d : Bool) → d ≡ down → {y : BytePosition} → y ≡ s.position
-          → (q : Matched) → q ≡ matched (all_match text (slice start end d (stack_of a v).cache) y.0)
+          → (q : Option BytePosition) → q ≡ matched (all_match text (slice start end d (stack_of a v).cache) y.0)
           → (t : ParserState) (z : Code·ending.Ending) → ((tokens scratch : List ℕ) → view_end tokens scratch t z ≡ moved (match_of q) (view tokens scratch s))
           → (tokens : List ℕ) → view_end tokens a t z ≡ stack_match_peek_slice text i (end_of c b) down (view tokens a s)
       slice_moved l d ed {y} ey q eq t z ez tokens =

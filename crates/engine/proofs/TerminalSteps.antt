@@ -5,7 +5,7 @@ use mathlib.Core.Path.{◌≡◌, refl, sym, ap, ap₂, subst, ◌∙◌}
 use mathlib.Core.Bool.{Bool, true, false, ◌||◌, true≢false}
 use mathlib.Core.Logic.{◌⊎◌, inl, inr}
 use mathlib.Core.List.{List}
-use mathlib.Core.Option.{Option, none, some}
+use Rattle.std.specs.Prelude.{Option, None, Some}
 use Prim.Native.Nat.{ℕ, zero, suc, ◌+◌, ◌≤◌}
 use native.Mathlib.Omega.{arith}
 use native.Mathlib.Decide.{dec_le}
@@ -145,13 +145,13 @@ module _ (ns : List ℤ) (literals text : List ℕ) (capacity d : ℕ) (w : Acce
 
   -- x and y: the two ends as the code passes them on.
   pub end_16 : n.kind ≡ 16 → (v : Ends) → v ≡ ends_of (node_at ns l) → (x y : ℤ) → x ≡ v.start → y ≡ v.end → (m : ParserState) (r : Ending ParserState)
-      → r ≡ Pest.stack_match_peek_slice text x (if ltb n.c 2 then some y else none) (eqb n.c 1 || eqb n.c 3) m → r ≡ At m
+      → r ≡ Pest.stack_match_peek_slice text x (if ltb n.c 2 then Some y else None) (eqb n.c 1 || eqb n.c 3) m → r ≡ At m
   end_16 q v u x y p o m r z =
-      by_kind 16 (Grammar.stack_match_peek_slice x (if ltb n.c 2 then some y else none) (eqb n.c 1 || eqb n.c 3))
-      (λ k. Pest.stack_match_peek_slice text x (if ltb n.c 2 then some y else none) (eqb n.c 1 || eqb n.c 3) k)
+      by_kind 16 (Grammar.stack_match_peek_slice x (if ltb n.c 2 then Some y else None) (eqb n.c 1 || eqb n.c 3))
+      (λ k. Pest.stack_match_peek_slice text x (if ltb n.c 2 then Some y else None) (eqb n.c 1 || eqb n.c 3) k)
       (tree_kind ns literals w l i.low i.high 16 (kind_of ns literals w l i n e 16 q)
-      ∙ ap₂ (λ (j : Ends) (c : ℕ). Grammar.stack_match_peek_slice j.start (if ltb c 2 then some j.end else none) (eqb c 1 || eqb c 3)) (sym u) (ap (λ (j : Read.Line). j.c) (sym e))
-      ∙ ap₂ (λ (j k : ℤ). Grammar.stack_match_peek_slice j (if ltb n.c 2 then some k else none) (eqb n.c 1 || eqb n.c 3)) (sym p) (sym o))
+      ∙ ap₂ (λ (j : Ends) (c : ℕ). Grammar.stack_match_peek_slice j.start (if ltb c 2 then Some j.end else None) (eqb c 1 || eqb c 3)) (sym u) (ap (λ (j : Read.Line). j.c) (sym e))
+      ∙ ap₂ (λ (j k : ℤ). Grammar.stack_match_peek_slice j (if ltb n.c 2 then Some k else None) (eqb n.c 1 || eqb n.c 3)) (sym p) (sym o))
       (λ room f k. refl) m r z
 
   pub end_17 : n.kind ≡ 17 → (m : ParserState) (y : Ending ParserState) → y ≡ Pest.stack_match_pop text true l m.stack.cache m.position m → y ≡ At m

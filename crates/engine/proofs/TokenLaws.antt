@@ -1,16 +1,17 @@
 -- Tokens in an area: a write inside one token changes that token of the queue and no other. So a push, a partner and a tag are each
 -- one case of a single law over the token's five numbers.
 use Rattle.std.specs.Prelude.{if◌then◌else◌}
-use mathlib.Core.Path.{◌≡◌, refl, sym, ap, ap₂, ◌∙◌, subst}
+use mathlib.Core.Path.{◌≡◌, refl, sym, ap, ap₂, ◌∙◌}
 use mathlib.Core.List.{List, [], ◌∷◌, ◌++◌, append_assoc}
 use Prim.Native.Nat.{ℕ, zero, suc, ◌+◌, ◌*◌, ◌-◌, ◌≤◌, ◌<◌}
 use native.Mathlib.Omega.{arith}
 use native.Mathlib.Numerals.{add-one}
 use native.Mathlib.Decide.{dec_lt, dec_le}
-use lib.ListN.{length, get_or, take, set, length-append, length-set, get_or-append}
+use lib.ListN.{length, get_or, take, set, length-append, get_or-append}
 use lib.Seq.{get_or-set_same, get_or-set_other, take-append-le, take_all, take-suc, set-append_left, set_out, set_at, get_or_at, set-get_or}
 use lib.Dec.{eqb}
 use borrow.Author.Tests.{eq-eqb, ne_eqb}
+use Rattle.std.proofs.lemmas.Simd.{length-put_chunk, get_or-put_chunk_below, get_or-put_chunk_above, get_or-put_chunk_at}
 use Rattle.reading.specs.Forest.{Token}
 use Rattle.reading.specs.Pest.{QueueableToken, Start, End, with_end, tag_last}
 use Rattle.engine.specs.Areas.{Outside, token_at, queue_of}
@@ -127,50 +128,32 @@ written_one a n e w i l = go (dec_lt i n)
     go (no f) = let q : i ≡ n = omega arith in rw q e
 
 -- ── push ──
-module _ (a : List ℕ) (i : ℕ) (t : Token) where
-  put_outside : Outside (i * 5) (i * 5 + 5) a (put_token a i t)
-  unfolding put_token
-  put_outside =
-      let a₁ : List ℕ = set a (i * 5) t.kind in
-      let a₂ : List ℕ = set a₁ (i * 5 + 1) t.partner in
-      let a₃ : List ℕ = set a₂ (i * 5 + 2) t.position in
-      let a₄ : List ℕ = set a₃ (i * 5 + 3) t.rule in
-      outside_trans (outside_set_in a (i * 5) (i * 5 + 5) (i * 5) t.kind (omega arith) (omega arith))
-      (outside_trans (outside_set_in a₁ (i * 5) (i * 5 + 5) (i * 5 + 1) t.partner (omega arith) (omega arith))
-      (outside_trans (outside_set_in a₂ (i * 5) (i * 5 + 5) (i * 5 + 2) t.position (omega arith) (omega arith))
-      (outside_trans (outside_set_in a₃ (i * 5) (i * 5 + 5) (i * 5 + 3) t.rule (omega arith) (omega arith))
-      (outside_set_in a₄ (i * 5) (i * 5 + 5) (i * 5 + 4) t.tag (omega arith) (omega arith)))))
+module _ (a : List ℕ) (i : ℕ) (t : Token) (h : i * 5 + 5 ≤ length a) where
+  abbrev five : List ℕ
+  five = numbers (t ∷ [])
 
-  put_here : i * 5 + 5 ≤ length a → five_at (put_token a i t) i ≡ t
-  unfolding put_token
-  put_here h =
-      let a₁ : List ℕ = set a (i * 5) t.kind in
-      let a₂ : List ℕ = set a₁ (i * 5 + 1) t.partner in
-      let a₃ : List ℕ = set a₂ (i * 5 + 2) t.position in
-      let a₄ : List ℕ = set a₃ (i * 5 + 3) t.rule in
-      five_ext
-      (get_or-set_other a₄ (i * 5 + 4) (i * 5) t.tag 0 (omega arith)
-      ∙ get_or-set_other a₃ (i * 5 + 3) (i * 5) t.rule 0 (omega arith)
-      ∙ get_or-set_other a₂ (i * 5 + 2) (i * 5) t.position 0 (omega arith)
-      ∙ get_or-set_other a₁ (i * 5 + 1) (i * 5) t.partner 0 (omega arith)
-      ∙ get_or-set_same a (i * 5) t.kind 0 (omega arith))
-      (get_or-set_other a₄ (i * 5 + 4) (i * 5 + 1) t.tag 0 (omega arith)
-      ∙ get_or-set_other a₃ (i * 5 + 3) (i * 5 + 1) t.rule 0 (omega arith)
-      ∙ get_or-set_other a₂ (i * 5 + 2) (i * 5 + 1) t.position 0 (omega arith)
-      ∙ get_or-set_same a₁ (i * 5 + 1) t.partner 0 (simp length-set (omega arith)))
-      (get_or-set_other a₄ (i * 5 + 4) (i * 5 + 2) t.tag 0 (omega arith)
-      ∙ get_or-set_other a₃ (i * 5 + 3) (i * 5 + 2) t.rule 0 (omega arith)
-      ∙ get_or-set_same a₂ (i * 5 + 2) t.position 0 (simp length-set (omega arith)))
-      (get_or-set_other a₄ (i * 5 + 4) (i * 5 + 3) t.tag 0 (omega arith)
-      ∙ get_or-set_same a₃ (i * 5 + 3) t.rule 0 (simp length-set (omega arith)))
-      (get_or-set_same a₄ (i * 5 + 4) t.tag 0 (simp length-set (omega arith)))
+  put_outside : Outside (i * 5) (i * 5 + 5) a (put_token a i five)
+  put_outside = record {
+    size = length-put_chunk (i * 5) a five;
+    below = λ k l. sym (get_or-put_chunk_below (i * 5) a five k 0 l);
+    above = λ k l. sym (get_or-put_chunk_above (i * 5) a five k 0 l);
+  }
 
-pub pushed : (a : List ℕ) (n : ℕ) (t : QueueableToken) (b : List ℕ) → n * 5 + 5 ≤ length a → b ≡ put_token a n (token_of t) → Pushed a n t b
+  put_number : (j : ℕ) → j < 5 → get_or (put_token a i five) (i * 5 + j) 0 ≡ get_or five j 0
+  put_number j l = get_or-put_chunk_at (i * 5) a five j 0 l h
+
+  put_here : five_at (put_token a i five) i ≡ t
+  put_here =
+      let z : i * 5 ≡ i * 5 + 0 = omega arith in
+      five_ext (ap (λ (k : ℕ). get_or (put_token a i five) k 0) z ∙ put_number 0 (omega arith))
+      (put_number 1 (omega arith)) (put_number 2 (omega arith)) (put_number 3 (omega arith)) (put_number 4 (omega arith))
+
+pub pushed : (a : List ℕ) (n : ℕ) (t : QueueableToken) (b : List ℕ) → n * 5 + 5 ≤ length a → b ≡ put_token a n (numbers (token_of t ∷ [])) → Pushed a n t b
 unfolding queue_of
 pushed a n t b h e =
     let five : five_at b n ≡ token_of t = ap (λ (x : List ℕ). five_at x n) e ∙ put_here a n (token_of t) h in
     let here : token_at b n ≡ t = ap token_by five ∙ token_back t in
-    let o : Outside (n * 5) (n * 5 + 5) a b = rw e (put_outside a n (token_of t)) in
+    let o : Outside (n * 5) (n * 5 + 5) a b = rw e (put_outside a n (token_of t) h) in
     record {
       queue = rw (add-one n) (ap₂ (λ (q : List QueueableToken) (u : QueueableToken). q ++ (u ∷ [])) (before_kept a b n o n (omega arith)) here);
       others = o;
@@ -296,30 +279,6 @@ pub tokens_area : (a : List ℕ) (n : ℕ) → n * 5 ≤ length a → Written a 
 tokens_area a n h w = ap (filled (length a)) (queue_numbers a n h w)
 
 -- ── tokens settled to the numbers of what they stand for ──
-module _ (a : List ℕ) (i : ℕ) (h : i * 5 + 5 ≤ length a) where
-  pub settled_start : get_or a (i * 5) 0 ≡ 1 → Settled a i (set (set a (i * 5 + 3) 0) (i * 5 + 4) 0)
-  settled_start e =
-      let b : List ℕ = set a (i * 5 + 3) 0 in
-      record {
-        five = five_ext
-            (get_or-set_other b (i * 5 + 4) (i * 5) 0 0 (omega arith) ∙ get_or-set_other a (i * 5 + 3) (i * 5) 0 0 (omega arith) ∙ e)
-            (get_or-set_other b (i * 5 + 4) (i * 5 + 1) 0 0 (omega arith) ∙ get_or-set_other a (i * 5 + 3) (i * 5 + 1) 0 0 (omega arith))
-            (get_or-set_other b (i * 5 + 4) (i * 5 + 2) 0 0 (omega arith) ∙ get_or-set_other a (i * 5 + 3) (i * 5 + 2) 0 0 (omega arith))
-            (get_or-set_other b (i * 5 + 4) (i * 5 + 3) 0 0 (omega arith) ∙ get_or-set_same a (i * 5 + 3) 0 0 (omega arith))
-            (get_or-set_same b (i * 5 + 4) 0 0 (simp length-set (omega arith)))
-            ∙ sym (ap token_of (start_by (five_at a i) e));
-        others = outside_trans (outside_set_in a (i * 5) (i * 5 + 5) (i * 5 + 3) 0 (omega arith) (omega arith)) (outside_set_in b (i * 5) (i * 5 + 5) (i * 5 + 4) 0 (omega arith) (omega arith));
-      }
-
-  pub settled_end : (get_or a (i * 5) 0 ≡ 1 → ⊥) → Settled a i (set a (i * 5) 2)
-  settled_end f = record {
-    five = five_ext (get_or-set_same a (i * 5) 2 0 (omega arith))
-        (get_or-set_other a (i * 5) (i * 5 + 1) 2 0 (omega arith)) (get_or-set_other a (i * 5) (i * 5 + 2) 2 0 (omega arith))
-        (get_or-set_other a (i * 5) (i * 5 + 3) 2 0 (omega arith)) (get_or-set_other a (i * 5) (i * 5 + 4) 2 0 (omega arith))
-        ∙ sym (ap token_of (end_by (five_at a i) f));
-    others = outside_set_in a (i * 5) (i * 5 + 5) (i * 5) 2 (omega arith) (omega arith);
-  }
-
 pub settled_none : (n : ℕ) (a : List ℕ) → SettledTo 0 n a a
 settled_none n a = record { queue = refl; written = written_none a; others = outside_refl a }
 
@@ -335,9 +294,6 @@ settled_more i n a b c h p s =
       written = written_one c i five (written_changed b c i s.others i five p.written);
       others = outside_trans p.others (outside_wider (omega arith) (omega arith) s.others);
     }
-
-pub settled_all : (i n : ℕ) (a b : List ℕ) → i ≤ n → n ≤ i → SettledTo i n a b → SettledTo n n a b
-settled_all i n a b h g p = let e : i ≡ n = omega arith in record { queue = p.queue; written = subst (Written b) e p.written; others = p.others }
 
 pub settled_area : (n : ℕ) (a b c : List ℕ) → n * 5 ≤ length a → SettledTo n n a b → c ≡ filled (length b) (take (n * 5) b) → c ≡ filled (length a) (numbers (tokens_of (queue_of a n)))
 settled_area n a b c h p e =

@@ -49,10 +49,6 @@ pub record Walking (ns : List ℤ) (literals text : List ℕ) (capacity d line :
   pub scratch_same : length scratch ≡ length scratch₀
   pub runs : evaluated ns literals text capacity d (tree_at ns literals at) m ≡ evaluated ns literals text capacity d (tree_at ns literals line) m₀
 
-pub first_walk : (ns : List ℤ) (literals text : List ℕ) (capacity d line : ℕ) (tokens scratch : List ℕ) (m : ParserState) → Ready ns literals text tokens scratch capacity d m → Line ns line
-    → Walking ns literals text capacity d line tokens scratch m tokens scratch line m
-first_walk ns literals text capacity d line tokens scratch m r i = record { ready = r; here = i; upto = omega arith; tokens_same = refl; scratch_same = refl; runs = refl }
-
 -- Whether a line is a fork, and what is then below it.
 data Below (ns : List ℤ) (l : ℕ) : Type 0 where
   left : Fork (kind_at ns l) → below ns l ≡ left_of ns l → Below ns l
@@ -127,14 +123,14 @@ module _ (ns : List ℤ) (literals text : List ℕ) (capacity d : ℕ) where
   fine_line : (tokens scratch : List ℕ) (l : ℕ) (m : ParserState) (x : Ending ParserState) → Ready ns literals text tokens scratch capacity d m → x ≡ at_line l m → Fine g d x
   fine_line tokens scratch l m x r e = fine_left g d m x r.deep (kept ns literals text capacity tokens scratch d l m x r e)
 
-  module _ (tokensₒ scratchₒ : List ℕ) (top : ℕ) (m : ParserState) (r : Ready ns literals text tokensₒ scratchₒ capacity d m) (here : Line ns top) where
+  module _ {tokensₒ scratchₒ : List ℕ} {top : ℕ} {m : ParserState} (r : Ready ns literals text tokensₒ scratchₒ capacity d m) (here : Line ns top) where
     abbrev fk : Forked ns literals
     fk = forked ns literals (tests ns literals text capacity r)
 
     pub slopes : Slopes ns top
     slopes = Climbs.slopes ns literals text capacity d fk top here.low here.high
 
-    module _ (p : Spine) (w : Spined ns top p) where
+    module _ {p : Spine} (w : Spined ns top p) where
       pub low_upto : p.line ≤ top
       low_upto = (Climbs.low_in ns literals text capacity d fk top here.low here.high p w).1
 
@@ -147,11 +143,11 @@ module _ (ns : List ℤ) (literals text : List ℕ) (capacity d : ℕ) where
       pub forks_below : (i : ℕ) → i ≤ p.count → Forks ns top i
       forks_below = Climbs.forks_below ns literals text capacity d fk top here.low here.high p w
 
-      pub line_whole : (i l : ℕ) → i ≤ p.count → l ≡ spine_line ns top i → (1 ≤ l) × (l * 4 ≤ length ns)
-      line_whole = Climbs.line_whole ns literals text capacity d fk top here.low here.high p w
+      pub line_whole : (i : ℕ) {l : ℕ} → i ≤ p.count → l ≡ spine_line ns top i → (1 ≤ l) × (l * 4 ≤ length ns)
+      line_whole i {l} = Climbs.line_whole ns literals text capacity d fk top here.low here.high p w i l
 
-      pub first_climb : (tokens scratch : List ℕ) (x : Ending ParserState) → x ≡ at_line p.line m → Climbing ns literals text capacity d top p.count tokens scratch x tokens scratch x p.count
-      first_climb tokens scratch x f = record { tokens_same = refl; scratch_same = refl; low = λ h. h; upto = omega arith; fine = fine_line tokensₒ scratchₒ p.line m x r f; runs = λ _ e. e }
+      pub first_climb : {tokens scratch : List ℕ} {x : Ending ParserState} → x ≡ at_line p.line m → Climbing ns literals text capacity d top p.count tokens scratch x tokens scratch x p.count
+      first_climb {x = x} f = record { tokens_same = refl; scratch_same = refl; low = λ h. h; upto = omega arith; fine = fine_line tokensₒ scratchₒ p.line m x r f; runs = λ _ e. e }
 
       some_below : Fork (kind_at ns top) → 1 ≤ p.count
       some_below fork = go (dec_le 1 p.count)
@@ -167,44 +163,47 @@ module _ (ns : List ℤ) (literals text : List ℕ) (capacity d : ℕ) where
           go (yes h) = absurd (f (subst (λ (l : ℕ). Fork (kind_at ns l)) (sym (spine_first ns top)) (w.forks 0 (omega arith))))
           go (no h) = omega arith
 
-      module _ (tokens₀ scratch₀ : List ℕ) (x₀ : Ending ParserState) (ut : length tokens₀ ≡ length tokensₒ) (us : length scratch₀ ≡ length scratchₒ)
-          (tokens scratch : List ℕ) (x : Ending ParserState) (i : ℕ) (c : Climbing ns literals text capacity d top p.count tokens₀ scratch₀ x₀ tokens scratch x i) where
+      module _ {tokens₀ scratch₀ : List ℕ} {x₀ : Ending ParserState} (ut : length tokens₀ ≡ length tokensₒ) (us : length scratch₀ ≡ length scratchₒ)
+          {tokens scratch : List ℕ} {x : Ending ParserState} {i : ℕ} (c : Climbing ns literals text capacity d top p.count tokens₀ scratch₀ x₀ tokens scratch x i) where
         -- The state from which a right side is evaluated.
-        pub go_ready : (k : ℕ) (t : ParserState) → go t ≡ going k x → Ready ns literals text tokens scratch capacity d t
-        go_ready k t f =
+        pub go_ready : (k : ℕ) {t : ParserState} → go t ≡ going k x → Ready ns literals text tokens scratch capacity d t
+        go_ready k {t} f =
             let v : Able g d t = subst (FineOn g d) (sym f) (fine_going g d k x c.fine) in
             ready_on ns literals text capacity r (c.tokens_same ∙ ut) (c.scratch_same ∙ us) v.0 v.1
 
-        module _ (o : 1 < i) (l : ℕ) (q : l ≡ spine_line ns top (i - 1)) (n : Read.Line) (h : n ≡ line_of (node_at ns l)) where
+        module _ (j : ℕ) (above : j + 1 ≡ i) (o : 1 ≤ j) {l : ℕ} (q : l ≡ spine_line ns top j) {n : Read.Line} (h : n ≡ line_of (node_at ns l)) where
           -- The right side is lower than the spine's line, which is lower than the top.
           pub climb_in : (1 ≤ n.b) × (n.b + 1 < top)
           climb_in =
-              let v = Climbs.right_lower ns literals text capacity d fk top here.low here.high p w (i - 1) l (omega (arith, c.upto)) q n h in
+              let v = Climbs.right_lower ns literals text capacity d fk top here.low here.high p w j l (omega (arith, above, c.upto)) q n h in
               (v.0.0, omega (arith, v.0.1, v.1))
 
           pub climb_line : Line ns n.b
           climb_line = let v = climb_in in record { low = v.0; high = omega (arith, v.1, here.high) }
 
-          climbs : (y : Ending ParserState) → y ≡ onto (at_line n.b) (going n.kind x) → (m' : ParserState) → x₀ ≡ at_line (spine_line ns top p.count) m' → y ≡ at_line (spine_line ns top (i - 1)) m'
-          climbs y f m' e = Climbs.climb_runs ns literals text capacity d fk top here.low here.high p w m' i x (omega arith) c.upto (c.runs m' e) l q n h y f
+          climbs : (y : Ending ParserState) → y ≡ onto (at_line n.b) (going n.kind x) → (m' : ParserState) → x₀ ≡ at_line (spine_line ns top p.count) m' → y ≡ at_line (spine_line ns top j) m'
+          climbs y f m' e =
+              let back : i - 1 ≡ j = omega (arith, above) in
+              Climbs.climb_runs ns literals text capacity d fk top here.low here.high p w m' i x (omega (arith, above, o)) c.upto (c.runs m' e) l (q ∙ ap (spine_line ns top) (sym back)) n h y f
+              ∙ ap (λ (k : ℕ). at_line (spine_line ns top k) m') back
 
-          pub climb_go : (t : ParserState) → go t ≡ going n.kind x → (tokens' scratch' : List ℕ) (y : Ending ParserState) → y ≡ at_line n.b t → length tokens' ≡ length tokens → length scratch' ≡ length scratch
-              → Climbing ns literals text capacity d top p.count tokens₀ scratch₀ x₀ tokens' scratch' y (i - 1)
-          climb_go t f tokens' scratch' y v a b = record {
+          pub climb_go : {t : ParserState} → go t ≡ going n.kind x → {y : Ending ParserState} → y ≡ at_line n.b t → {tokens' scratch' : List ℕ} → length tokens' ≡ length tokens → length scratch' ≡ length scratch
+              → Climbing ns literals text capacity d top p.count tokens₀ scratch₀ x₀ tokens' scratch' y j
+          climb_go {t} f {y} v a b = record {
             tokens_same = a ∙ c.tokens_same;
             scratch_same = b ∙ c.scratch_same;
-            low = λ _. omega arith;
-            upto = omega (arith, c.upto);
-            fine = fine_line tokens scratch n.b t y (go_ready n.kind t f) v;
+            low = λ _. o;
+            upto = omega (arith, above, c.upto);
+            fine = fine_line tokens scratch n.b t y (go_ready n.kind f) v;
             runs = climbs y (v ∙ ap (onto (at_line n.b)) f);
           }
 
-          pub climb_stay : stay x ≡ going n.kind x → Climbing ns literals text capacity d top p.count tokens₀ scratch₀ x₀ tokens scratch x (i - 1)
+          pub climb_stay : stay x ≡ going n.kind x → Climbing ns literals text capacity d top p.count tokens₀ scratch₀ x₀ tokens scratch x j
           climb_stay f = record {
             tokens_same = c.tokens_same;
             scratch_same = c.scratch_same;
-            low = λ _. omega arith;
-            upto = omega (arith, c.upto);
+            low = λ _. o;
+            upto = omega (arith, above, c.upto);
             fine = c.fine;
             runs = climbs x (ap (onto (at_line n.b)) f);
           }
@@ -223,8 +222,7 @@ module _ (ns : List ℤ) (literals text : List ℕ) (capacity d : ℕ) where
             go (itself k e) = from 0 (omega (arith, c.upto, none_below k)) ∙ ap (λ (l : ℕ). at_line l m) (sym (spine_first ns top) ∙ sym e)
 
     -- The top, from its left side's ending x.
-    module _ (fork : Fork (kind_at ns top)) (tokens scratch : List ℕ) (ut : length tokens ≡ length tokensₒ) (us : length scratch ≡ length scratchₒ)
-        (x : Ending ParserState) (g₀ : x ≡ at_line (below ns top) m) (n : Read.Line) (h : n ≡ line_of (node_at ns top)) where
+    module _ (fork : Fork (kind_at ns top)) {x : Ending ParserState} (g₀ : x ≡ at_line (below ns top) m) {n : Read.Line} (h : n ≡ line_of (node_at ns top)) where
       f₀ : x ≡ at_line (left_of ns top) m
       f₀ = g₀ ∙ ap (λ (l : ℕ). at_line l m) (below_fork ns top fork)
 
@@ -234,9 +232,10 @@ module _ (ns : List ℤ) (literals text : List ℕ) (capacity d : ℕ) where
       top_is : (y : Ending ParserState) → y ≡ onto (at_line n.b) (going n.kind x) → y ≡ at_line top m
       top_is y f = Climbs.top_runs ns literals text capacity d fk top here.low here.high fork x m f₀ n h y f
 
-      pub top_go : (line : ℕ) (tokensₛ scratchₛ : List ℕ) (mₛ : ParserState) → Walking ns literals text capacity d line tokensₛ scratchₛ mₛ tokensₒ scratchₒ top m → (t : ParserState) → go t ≡ going n.kind x
+      pub top_go : {tokens scratch : List ℕ} → length tokens ≡ length tokensₒ → length scratch ≡ length scratchₒ → {line : ℕ} {tokensₛ scratchₛ : List ℕ} {mₛ : ParserState}
+          → Walking ns literals text capacity d line tokensₛ scratchₛ mₛ tokensₒ scratchₒ top m → {t : ParserState} → go t ≡ going n.kind x
           → Walking ns literals text capacity d line tokensₛ scratchₛ mₛ tokens scratch n.b t
-      top_go line tokensₛ scratchₛ mₛ v t f =
+      top_go ut us v {t} f =
           let b = top_in in
           let a : Able g d t = subst (FineOn g d) (sym f) (fine_going g d n.kind x (fine_line tokensₒ scratchₒ (left_of ns top) m x r f₀)) in
           record {
@@ -249,8 +248,8 @@ module _ (ns : List ℤ) (literals text : List ℕ) (capacity d : ℕ) where
           }
 
     -- An ending that stays is the top's, whether it is a fork or not.
-    pub top_stay : (x : Ending ParserState) → x ≡ at_line (below ns top) m → (n : Read.Line) → n ≡ line_of (node_at ns top) → stay x ≡ going n.kind x → x ≡ at_line top m
-    top_stay x f n h q = go (is_fork ns top)
+    pub top_stay : {x : Ending ParserState} → x ≡ at_line (below ns top) m → {n : Read.Line} → n ≡ line_of (node_at ns top) → stay x ≡ going n.kind x → x ≡ at_line top m
+    top_stay {x} f {n} h q = go (is_fork ns top)
       where
         go : Below ns top → x ≡ at_line top m
         go (left k e) = Climbs.top_runs ns literals text capacity d fk top here.low here.high k x m (f ∙ ap (λ (l : ℕ). at_line l m) e) n h x (ap (onto (at_line n.b)) q)

@@ -3,7 +3,7 @@ use Rattle.std.specs.Prelude.{◌≡◌, List, [], ◌∷◌, ◌++◌, ℕ, zer
 use Rattle.engine.specs.declared.stack.Stack.{Stack}
 use Rattle.reading.specs.declared.parser_state.Ending.{Ending}
 use Rattle.reading.specs.declared.parser_state.Ending.TheVariants as Code
-use Rattle.engine.specs.Fields.{ParserState}
+use Rattle.engine.specs.declared.parser_state.ParserState.{ParserState}
 use Rattle.reading.specs.Ending as Model
 use Rattle.reading.specs.Ending.{Span, Checkpoint}
 use Rattle.reading.specs.Pest as Pest

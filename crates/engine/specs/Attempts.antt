@@ -1,9 +1,7 @@
 -- pest's attempts by themselves: what `rule` notes of them and what `track` makes of them, and how a scratch area stands for them.
-use Rattle.std.specs.Prelude.{Bool, ◌&&◌, ◌||◌, not, List, [], ◌∷◌, ◌++◌, ℕ, ◌+◌, ◌-◌, ◌≤◌, length, take, eqb, ltb, if◌then◌else◌}
+use Rattle.std.specs.Prelude.{◌≡◌, Bool, ◌&&◌, ◌||◌, not, List, [], ◌∷◌, ◌++◌, ℕ, ◌+◌, ◌-◌, ◌≤◌, ◌<◌, length, take, set, eqb, ltb, if◌then◌else◌, Option, None, Some}
 use Rattle.engine.specs.declared.attempts.Attempts.{Attempts}
 use Rattle.engine.specs.declared.attempts.Noted.{Noted}
-use Rattle.engine.specs.declared.attempts.Tracked as Code
-use Rattle.engine.specs.declared.attempts.Tracked.TheVariants.{Kept, Full}
 use Rattle.reading.specs.Reading.{most_attempts}
 use Rattle.reading.specs.Pest.{ParserState, set_attempts}
 use Rattle.engine.specs.Areas.{numbers, positives_at, negatives_at, scratch_size}
@@ -51,16 +49,13 @@ tracked r p n neg t =
     else appended r p neg (advanced p (truncated p n t))
 
 -- "attempt 257 in a list" is one too many.
-pub data Track : Type 0 where
-  kept : Tried → Track
-  full : Track
+abbrev pub within : Tried → Option Tried
+within t = if ltb most_attempts (length t.positive) || ltb most_attempts (length t.negative) then None else Some t
 
-abbrev pub within : Tried → Track
-within t = if ltb most_attempts (length t.positive) || ltb most_attempts (length t.negative) then full else kept t
-
-abbrev pub view_tracked : (scratch : List ℕ) → Code.Tracked → Track
-view_tracked a (Kept t) = kept (tried a t)
-view_tracked a Full = full
+-- b is a, with one rule more behind the n rules of the list at `region`, and r says how many these are; or a list of 256 is left alone.
+abbrev pub PushedAt : (region n rule : ℕ) → (a b : List ℕ) → Option ℕ → Type 0
+PushedAt region n rule a b None = (most_attempts ≤ n) × (b ≡ a)
+PushedAt region n rule a b (Some r) = (n < most_attempts) × (r ≡ n + 1) × (b ≡ set a (region + n) rule)
 
 -- What holds of the attempts of every run.
 pub record Few (t : Attempts) : Type 0 where

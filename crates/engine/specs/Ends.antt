@@ -1,12 +1,14 @@
 -- What the functions over an ending ask of it, and the two that say it more shortly than pest.
-use Rattle.std.specs.Prelude.{Bool, List, ℕ, ◌≤◌, if◌then◌else◌}
+use Rattle.std.specs.Prelude.{Bool, true, List, ℕ, ◌≤◌, if◌then◌else◌}
 use Rattle.matching.specs.declared.position.BytePosition.{BytePosition}
 use Rattle.reading.specs.declared.parser_state.Atomicity.{Atomicity}
 use Rattle.reading.specs.declared.parser_state.Ending as Declared
 use Rattle.reading.specs.declared.parser_state.Ending.TheVariants as Code
-use Rattle.engine.specs.Fields as State
+use Rattle.engine.specs.declared.parser_state.ParserState as State
 use Rattle.reading.specs.Ending.{Ending, Ok, Err, Stop}
-use Rattle.reading.specs.Pest.{ParserState, set_atomicity, limit_reached}
+use Rattle.reading.specs.Reading.{Setting}
+use Rattle.reading.specs.Pest.{ParserState, set_atomicity, limit_reached, rule_end}
+use Rattle.engine.specs.declared.rule.Begun.{Begun}
 use Rattle.engine.specs.StackReady.{StateReady, PushReady}
 use Rattle.engine.specs.Rule.{Recording, Tracking}
 
@@ -41,3 +43,7 @@ atomic_back a (Stop c) = Stop c
 -- `lookahead`, from the state that it returns to: `good`, where the body did what was asked.
 abbrev pub looking : (good : Bool) → ParserState → Ending ParserState
 looking good m = if limit_reached m then Err m else if good then Ok m else Err m
+
+-- `rule`, after its body, from what it noted before.
+abbrev pub rule_ended : Setting → Begun → Ending ParserState → Ending ParserState
+rule_ended g b x = rule_end g true b.line b.rule b.position.0 b.index.0 b.noted.positives b.noted.negatives b.noted.total x

@@ -1,5 +1,7 @@
 -- What an entry answers, as the state that goes on or is refused.
-use Rattle.std.specs.Prelude.{Bool, true, false, if◌then◌else◌}
+use Rattle.std.specs.Prelude.{◌≡◌, Bool, true, false, List, ℕ, ◌+◌, ltb, Option, is_some, IfSome, if◌then◌else◌}
+use Rattle.engine.specs.declared.parser_state.ParserState as Code
+use Rattle.engine.specs.Areas.{view}
 use Rattle.reading.specs.Ending.{Ending, Err}
 use Rattle.reading.specs.Pest.{ParserState, Entered, enter, set_call_tracker}
 
@@ -22,3 +24,8 @@ entering room counted m =
 abbrev pub go_on : Entry → (ParserState → Ending ParserState) → Ending ParserState
 go_on (opened m) k = k m
 go_on (refused m) k = Err m
+
+-- What the code's entry answers: whether the call is let in, with the state that it left, and then how many more may be open.
+pub record EnteredBy (counted : Bool) (depth : ℕ) (s t : Code.ParserState) (r : Option ℕ) : Type 0 where
+  pub entry : (tokens scratch : List ℕ) → view_entry (is_some r) (view tokens scratch t) ≡ entering (ltb 0 depth) counted (view tokens scratch s)
+  pub deeper : IfSome r (λ d. d + 1 ≡ depth)

@@ -5,7 +5,10 @@ use Rattle.reading.specs.Fit.{Fit}
 use Rattle.reading.specs.Grammar.{tree_at}
 use Rattle.reading.specs.Pest as Pest
 use Rattle.reading.specs.Pest.{ParserState}
+use Rattle.matching.specs.declared.position.BytePosition.{BytePosition}
 use Rattle.engine.specs.declared.leaves.Halt.{Halt}
+use Rattle.engine.specs.declared.leaves.Halt.TheVariants.{Done, At}
+use Rattle.engine.specs.declared.setting.Setting as Given
 use Rattle.engine.specs.Evaluation.{setting_of, Line, evaluated}
 
 -- From the line `at` and the position p, the evaluation comes to what it comes to from the line `line` and the state m.
@@ -20,6 +23,15 @@ abbrev pub answer : (good : Bool) → ParserState → Ending ParserState
 answer true m = Ok m
 answer false m = Err m
 
-pub record Walked (ns : List ℤ) (literals text : List ℕ) (capacity d line : ℕ) (m : ParserState) (r : Halt) : Type 0 where
-  pub going : r.done ≡ false → Onto ns literals text capacity d line m r.line r.position.0
-  pub ended : r.done ≡ true → answer r.good (Pest.set_position r.position.0 m) ≡ evaluated ns literals text capacity d (tree_at ns literals line) m
+-- Where a walk from the line `line` and the state m ends, at the position p.
+abbrev pub Walked : List ℤ → (literals text : List ℕ) → (capacity d line : ℕ) → ParserState → BytePosition → Halt → Type 0
+Walked ns literals text capacity d line m p (At l) = Onto ns literals text capacity d line m l p.0
+Walked ns literals text capacity d line m p (Done good) = answer good (Pest.set_position p.0 m) ≡ evaluated ns literals text capacity d (tree_at ns literals line) m
+
+-- ── Of the code's setting ──
+-- A state that is fit for the grammar and the text.
+abbrev pub FitIn : Given.Setting → ParserState → Type 0
+FitIn g m = Fit (setting_of g.nodes.now g.literals.now g.text.now g.room) m
+
+abbrev pub WalkedFrom : Given.Setting → (d line : ℕ) → ParserState → BytePosition × Halt → Type 0
+WalkedFrom g d line m r = Walked g.nodes.now g.literals.now g.text.now g.room d line m r.0 r.1

@@ -1,21 +1,15 @@
--- Pairs of numbers in an area: one read, one written, and what the two loops of the stack leave.
+-- Pairs of numbers in an area: one read, one written, and what the loop of `restore` leaves.
 use Rattle.std.specs.Prelude.{List, ℕ, zero, suc, ◌+◌, ◌*◌, ◌-◌, get_or, set}
-use Rattle.engine.specs.declared.areas.Pair.{Pair}
 use Rattle.engine.specs.Areas.{entries_at, popped_at}
 
-abbrev pub pair : List ℕ → (at : ℕ) → Pair
-pair a at = record { first = get_or a at 0; second = get_or a (at + 1) 0 }
+abbrev pub pair : List ℕ → (at : ℕ) → ℕ × ℕ
+pair a at = (get_or a at 0, get_or a (at + 1) 0)
 
 unfoldable pub put : List ℕ → (at x y : ℕ) → List ℕ
 put a at x y = set (set a at x) (at + 1) y
 
 abbrev pub copied : List ℕ → (to from : ℕ) → List ℕ
 copied a to from = put a to (get_or a from 0) (get_or a (from + 1) 0)
-
--- n popped entries, moved from the index `from` down to the index `to`
-unfoldable pub drained : List ℕ → (to from n : ℕ) → List ℕ
-drained a to from zero = a
-drained a to from (suc n) = copied (drained a to from n) (popped_at + (to + n) * 2) (popped_at + (from + n) * 2)
 
 -- the last n of p popped entries, the last one first, put back at the height `low`
 unfoldable pub refilled : List ℕ → (low p n : ℕ) → List ℕ

@@ -3,7 +3,7 @@ use Rattle.std.specs.Prelude.{true, false, List, ℕ, ◌*◌, ◌≤◌, length
 use Rattle.reading.specs.Ending.{Ending, Ok}
 use Rattle.reading.specs.Reading.{Setting, most_entries, most_debt}
 use Rattle.reading.specs.Pest.{ParserState, Start, produces, push_token, set_queue}
-use Rattle.engine.specs.Fields as State
+use Rattle.engine.specs.declared.parser_state.ParserState as State
 use Rattle.engine.specs.Attempts.{Lent}
 
 -- `rule`, up to its body

@@ -4,7 +4,7 @@ use Rattle.matching.specs.declared.position.BytePosition.{BytePosition}
 use Rattle.engine.specs.declared.stack.Stack.{Stack}
 use Rattle.reading.specs.Reading.{most_entries, most_debt, most_attempts}
 use Rattle.reading.specs.Sound.{Sound}
-use Rattle.engine.specs.Fields.{ParserState}
+use Rattle.engine.specs.declared.parser_state.ParserState.{ParserState}
 use Rattle.engine.specs.Areas.{stack_of, positives_at, lengths_at, scratch_size}
 
 -- As many checkpoints as the last region holds: one for each open call.

@@ -1,5 +1,6 @@
 -- The queue as the code writes it: five numbers a token, and what each writer promises of them.
 use Rattle.std.specs.Prelude.{◌≡◌, List, [], ◌∷◌, ◌++◌, ℕ, ◌+◌, ◌-◌, ◌*◌, ◌<◌, get_or, set}
+use lib.Lanes.{put_chunk}
 use Rattle.reading.specs.Forest.{Token}
 use Rattle.reading.specs.Answer.{token_of}
 use Rattle.reading.specs.Pest.{QueueableToken, Start, with_end, tag_last}
@@ -15,9 +16,9 @@ five_at a i = record {
   tag = get_or a (i * 5 + 4) 0;
 }
 
-unfoldable pub put_token : (tokens : List ℕ) → (index : ℕ) → Token → List ℕ
-put_token a i t =
-    set (set (set (set (set a (i * 5) t.kind) (i * 5 + 1) t.partner) (i * 5 + 2) t.position) (i * 5 + 3) t.rule) (i * 5 + 4) t.tag
+-- The area where five numbers are written at an index.
+abbrev pub put_token : (tokens : List ℕ) → (index : ℕ) → (five : List ℕ) → List ℕ
+put_token a i five = put_chunk (i * 5) a five
 
 -- Each of the first n tokens has the very numbers of the token that it stands for: kind 1 with rule and tag 0, or kind 2. The queue
 -- alone does not say so, since it does not look at a Start's rule and tag, nor at which number other than 1 is an End's kind.

@@ -1,21 +1,18 @@
 // The end of a run: what it returns, and what then stands in its areas. Document 01, "Stops and refusals".
 ghost use Rattle.std.specs.Prelude.{◌≡◌, ◌*◌, ◌≤◌, length};
-ghost use Rattle.reading.specs.Ending as Model;
-ghost use Rattle.engine.specs.Fields.{state_size, fields};
-ghost use Rattle.engine.specs.Areas.{queue_of, view, view_end};
+ghost use Rattle.engine.specs.Areas.{queue_of, view_end};
 ghost use Rattle.reading.specs.Answer.{tokens_of};
 ghost use Rattle.engine.specs.Attempts.{tried};
 ghost use Rattle.engine.specs.Report.{Reportable};
 ghost use Rattle.reading.specs.Outcome as Answers;
 ghost use Rattle.reading.specs.Outcome.{laid, ascending};
 ghost use Rattle.reading.specs.Answer.{pest_answer};
-ghost use Rattle.engine.specs.Conclude.{outcome_of, Concluding, ConcludeReady};
+ghost use Rattle.engine.specs.Conclude.{outcome_of, ConcludeReady};
 
 use crate::attempts::{Attempts, write_report};
-use crate::fields::{attempts, queue, tracker};
-use crate::queueable_token::{clear, write_tokens};
+use crate::parser_state::ParserState;
+use crate::queueable_token::write_tokens;
 use crate::state::Outcome;
-use checks::call_limit_tracker::LimitReached;
 use matching::position::{BytePosition, TokenIndex};
 use reading::call_limit_tracker::LimitKind;
 use reading::parser_state::{Cause, Ending};
@@ -24,15 +21,16 @@ use reading::parser_state::{Cause, Ending};
 fn stopped(tokens: &mut [u32], report: &mut [u32], number: u32, place: u32) -> Outcome
     ensures { outcome_of result tokens.new report.new ≡ laid (length tokens.old) (length report.old) (Answers.stopped number place) }
 {
-    clear(tokens);
-    clear(report);
+    tokens.fill(0);
+    report.fill(0);
     Outcome {
-        number: number,
-        place: place,
+        number,
+        place,
         count: 0,
     }
 }
 
+// Kept: the numbers 11 to 16, here and in `of_cause`, as document 01's table and C's interface have them.
 // 11 and 12: "furthest"
 fn of_limit(
     tokens: &mut [u32],
@@ -63,17 +61,17 @@ fn of_cause(tokens: &mut [u32], report: &mut [u32], cause: Cause) -> Outcome
 }
 
 // "A run's 0 returns place 0, count of tokens; tokens, then zeros; report zeros."
+// Kept: the area and its count, as in queueable_token.rt.
 fn of_tokens(tokens: &mut [u32], report: &mut [u32], n: TokenIndex) -> Outcome
     requires { (n.0 * 5 ≤ length tokens.old) × (n.0 ≤ 65535) }
     ensures { outcome_of result tokens.new report.new ≡ laid (length tokens.old) (length report.old) (Answers.of_tokens (tokens_of (queue_of tokens.old n.0))) }
 {
     write_tokens(tokens, n);
-    clear(report);
-    let count = n.0 as u32;
+    report.fill(0);
     Outcome {
         number: 0,
         place: 0,
-        count: count,
+        count: n.0 as u32,
     }
 }
 
@@ -82,63 +80,35 @@ fn of_failure(tokens: &mut [u32], scratch: &[u32], report: &mut [u32], t: Attemp
     requires { Reportable scratch.now t report.old }
     ensures { outcome_of result tokens.new report.new ≡ laid (length tokens.old) (length report.old) (Answers.of_failure t.furthest.0 (ascending (tried scratch.now t).positive) (ascending (tried scratch.now t).negative)) }
 {
-    let place = t.furthest.0 as u32;
     let rules = write_report(scratch, t, report);
-    clear(tokens);
+    tokens.fill(0);
     let count = rules as u32;
     Outcome {
         number: 10,
-        place: place,
-        count: count,
+        place: t.furthest.0 as u32,
+        count,
     }
 }
 
-// "Ok without a limit cause is 0, even with text left over."
-fn of_ok(tokens: &mut [u32], scratch: &[u32], report: &mut [u32], s: &[usize]) -> Outcome
-    requires state_size_in_bounds { state_size ≤ length s.now }
-    requires concluding { Concluding tokens.old scratch.now report.old (fields s.now) }
-    ensures { outcome_of result tokens.new report.new ≡ laid (length tokens.old) (length report.old) (pest_answer (Model.Ok (view tokens.old scratch.now (fields s.now)))) }
-{
-    let t = tracker(s);
-    let reached = t.reached;
-    match reached {
-        LimitReached::By(kind) => {
-            let a = attempts(s);
-            of_limit(tokens, report, kind, a.furthest)
-        }
-        LimitReached::No => of_tokens(tokens, report, queue(s)),
-    }
-}
-
-fn of_err(tokens: &mut [u32], scratch: &[u32], report: &mut [u32], s: &[usize]) -> Outcome
-    requires state_size_in_bounds { state_size ≤ length s.now }
-    requires concluding { Concluding tokens.old scratch.now report.old (fields s.now) }
-    ensures { outcome_of result tokens.new report.new ≡ laid (length tokens.old) (length report.old) (pest_answer (Model.Err (view tokens.old scratch.now (fields s.now)))) }
-{
-    let t = tracker(s);
-    let a = attempts(s);
-    let reached = t.reached;
-    match reached {
-        LimitReached::By(kind) => of_limit(tokens, report, kind, a.furthest),
-        LimitReached::No => of_failure(tokens, scratch, report, a),
-    }
-}
-
-// The answer to an ending, from the state that it left.
+// The answer to an ending, from the state that it left: "Ok without a limit cause is 0, even with text left over."
 pub(crate) fn conclude(
     tokens: &mut [u32],
     scratch: &[u32],
     report: &mut [u32],
-    s: &[usize],
+    s: &ParserState,
     r: Ending,
 ) -> Outcome
-    requires state_size_in_bounds { state_size ≤ length s.now }
-    requires conclude_ready { ConcludeReady tokens.old scratch.now report.old (fields s.now) r }
-    ensures { outcome_of result tokens.new report.new ≡ laid (length tokens.old) (length report.old) (pest_answer (view_end tokens.old scratch.now (fields s.now) r)) }
+    requires { ConcludeReady tokens.old scratch.now report.old s.now r }
+    ensures { outcome_of result tokens.new report.new ≡ laid (length tokens.old) (length report.old) (pest_answer (view_end tokens.old scratch.now s.now r)) }
 {
+    if let Ending::Stop(cause) = r {
+        return of_cause(tokens, report, cause);
+    }
+    if let Some(kind) = s.tracker.reached {
+        return of_limit(tokens, report, kind, s.attempts.furthest);
+    }
     match r {
-        Ending::Ok => of_ok(tokens, scratch, report, s),
-        Ending::Err => of_err(tokens, scratch, report, s),
-        Ending::Stop(cause) => of_cause(tokens, report, cause),
+        Ending::Ok => of_tokens(tokens, report, s.queue),
+        _ => of_failure(tokens, scratch, report, s.attempts),
     }
 }

@@ -3,16 +3,14 @@ ghost use Rattle.std.specs.Prelude.{◌≡◌, true, List, ℕ, ◌≤◌, lengt
 ghost use Rattle.reading.specs.Ending as Model;
 ghost use Rattle.reading.specs.Reading.{Setting};
 ghost use Rattle.reading.specs.Pest as Pest;
-ghost use Rattle.engine.specs.Fields.{state_size, fields};
 ghost use Rattle.engine.specs.Areas.{view, view_end};
-ghost use Rattle.engine.specs.Ends.{EndReady, PushEndReady, RuleOkReady, RuleEndReady, atomic_back, looking};
+ghost use Rattle.engine.specs.Ends.{EndReady, PushEndReady, RuleOkReady, RuleEndReady, atomic_back, looking, rule_ended};
 ghost use Rattle.engine.specs.Rule.{Tracking};
 ghost use Rattle.engine.specs.StackReady.{StateReady};
 
-use crate::attempts::Noted;
 use crate::entry::limit_reached;
-use crate::fields::{lookahead, set_atomicity, set_lookahead, set_position, set_queue};
-use crate::rule::{close_rule, drop_rule, is_negative, track_rule};
+use crate::parser_state::ParserState;
+use crate::rule::{Begun, close_rule, drop_rule, track_rule};
 use crate::stack_state::{checkpoint_ok, restored, stack_push_end};
 use matching::position::{BytePosition, TokenIndex};
 use reading::parser_state::{Atomicity, Ending, Lookahead};
@@ -20,14 +18,13 @@ use reading::parser_state::{Atomicity, Ending, Lookahead};
 // On Err, position and stack return, and the queue is cut to its length at the start.
 pub(crate) fn sequence_end(
     scratch: &mut [u32],
-    s: &mut [usize],
+    s: &mut ParserState,
     position: BytePosition,
     queue: TokenIndex,
     r: Ending,
 ) -> Ending
-    requires state_size_in_bounds { state_size ≤ length s.old }
-    requires end_ready { EndReady scratch.old queue.0 (fields s.old) r }
-    ensures { (tokens : List ℕ) → view_end tokens scratch.new (fields s.new) result ≡ Pest.sequence_end queue.0 position.0 (view_end tokens scratch.old (fields s.old) r) }
+    requires { EndReady scratch.old queue.0 s.old r }
+    ensures { (tokens : List ℕ) → view_end tokens scratch.new s.new result ≡ Pest.sequence_end queue.0 position.0 (view_end tokens scratch.old s.old r) }
 {
     match r {
         Ending::Ok => {
@@ -35,8 +32,8 @@ pub(crate) fn sequence_end(
             Ending::Ok
         }
         Ending::Err => {
-            set_position(s, position);
-            set_queue(s, queue);
+            s.position = position;
+            s.queue = queue;
             restored(scratch, s);
             Ending::Err
         }
@@ -45,10 +42,9 @@ pub(crate) fn sequence_end(
 }
 
 // On Err, the stack returns.
-pub(crate) fn restore_on_err_end(scratch: &mut [u32], s: &mut [usize], r: Ending) -> Ending
-    requires state_size_in_bounds { state_size ≤ length s.old }
-    requires end_ready { EndReady scratch.old 0 (fields s.old) r }
-    ensures { (tokens : List ℕ) → view_end tokens scratch.new (fields s.new) result ≡ Pest.restore_on_err_end (view_end tokens scratch.old (fields s.old) r) }
+pub(crate) fn restore_on_err_end(scratch: &mut [u32], s: &mut ParserState, r: Ending) -> Ending
+    requires { EndReady scratch.old 0 s.old r }
+    ensures { (tokens : List ℕ) → view_end tokens scratch.new s.new result ≡ Pest.restore_on_err_end (view_end tokens scratch.old s.old r) }
 {
     match r {
         Ending::Ok => {
@@ -64,9 +60,8 @@ pub(crate) fn restore_on_err_end(scratch: &mut [u32], s: &mut [usize], r: Ending
 }
 
 // An Err is forgiven, unless it comes with a limit cause.
-pub(crate) fn forgiven(s: &[usize]) -> Ending
-    requires { state_size ≤ length s.now }
-    ensures { (tokens scratch : List ℕ) → view_end tokens scratch (fields s.now) result ≡ Pest.optional (Model.Err (view tokens scratch (fields s.now))) }
+pub(crate) fn forgiven(s: &ParserState) -> Ending
+    ensures { (tokens scratch : List ℕ) → view_end tokens scratch s.now result ≡ Pest.optional (Model.Err (view tokens scratch s.now)) }
 {
     if limit_reached(s) {
         Ending::Err
@@ -75,9 +70,8 @@ pub(crate) fn forgiven(s: &[usize]) -> Ending
     }
 }
 
-pub(crate) fn optional_end(s: &[usize], r: Ending) -> Ending
-    requires { state_size ≤ length s.now }
-    ensures { (tokens scratch : List ℕ) → view_end tokens scratch (fields s.now) result ≡ Pest.optional (view_end tokens scratch (fields s.now) r) }
+pub(crate) fn optional_end(s: &ParserState, r: Ending) -> Ending
+    ensures { (tokens scratch : List ℕ) → view_end tokens scratch s.now result ≡ Pest.optional (view_end tokens scratch s.now r) }
 {
     match r {
         Ending::Ok => Ending::Ok,
@@ -87,9 +81,8 @@ pub(crate) fn optional_end(s: &[usize], r: Ending) -> Ending
 }
 
 // The answer of a lookahead whose body matched or not, from the state that it returns to.
-fn looked(s: &[usize], good: bool) -> Ending
-    requires { state_size ≤ length s.now }
-    ensures { (tokens scratch : List ℕ) → view_end tokens scratch (fields s.now) result ≡ looking good (view tokens scratch (fields s.now)) }
+fn looked(s: &ParserState, good: bool) -> Ending
+    ensures { (tokens scratch : List ℕ) → view_end tokens scratch s.now result ≡ looking good (view tokens scratch s.now) }
 {
     if limit_reached(s) {
         Ending::Err
@@ -101,28 +94,26 @@ fn looked(s: &[usize], good: bool) -> Ending
 }
 
 // Back to where a lookahead began: position, lookahead and stack return.
-fn back_to(scratch: &mut [u32], s: &mut [usize], position: BytePosition, lookahead: Lookahead)
-    requires state_size_in_bounds { state_size ≤ length s.old }
-    requires state_ready { StateReady scratch.old (fields s.old) }
-    ensures { (tokens : List ℕ) → view tokens scratch.new (fields s.new) ≡ Pest.restored (Pest.set_lookahead lookahead (Pest.set_position position.0 (view tokens scratch.old (fields s.old)))) }
+fn back_to(scratch: &mut [u32], s: &mut ParserState, position: BytePosition, lookahead: Lookahead)
+    requires { StateReady scratch.old s.old }
+    ensures { (tokens : List ℕ) → view tokens scratch.new s.new ≡ Pest.restored (Pest.set_lookahead lookahead (Pest.set_position position.0 (view tokens scratch.old s.old))) }
 {
-    set_position(s, position);
-    set_lookahead(s, lookahead);
+    s.position = position;
+    s.lookahead = lookahead;
     restored(scratch, s);
 }
 
 // It goes back whatever the body answered.
 pub(crate) fn lookahead_end(
     scratch: &mut [u32],
-    s: &mut [usize],
+    s: &mut ParserState,
     positive: bool,
     lookahead: Lookahead,
     position: BytePosition,
     r: Ending,
 ) -> Ending
-    requires state_size_in_bounds { state_size ≤ length s.old }
-    requires end_ready { EndReady scratch.old 0 (fields s.old) r }
-    ensures { (tokens : List ℕ) → view_end tokens scratch.new (fields s.new) result ≡ Pest.lookahead_end positive lookahead position.0 (view_end tokens scratch.old (fields s.old) r) }
+    requires { EndReady scratch.old 0 s.old r }
+    ensures { (tokens : List ℕ) → view_end tokens scratch.new s.new result ≡ Pest.lookahead_end positive lookahead position.0 (view_end tokens scratch.old s.old r) }
 {
     match r {
         Ending::Ok => {
@@ -138,25 +129,23 @@ pub(crate) fn lookahead_end(
 }
 
 // The atomicity is the one before.
-pub(crate) fn atomic_end(s: &mut [usize], atomicity: Atomicity, r: Ending) -> Ending
-    requires { state_size ≤ length s.old }
-    ensures { (tokens scratch : List ℕ) → view_end tokens scratch (fields s.new) result ≡ atomic_back atomicity (view_end tokens scratch (fields s.old) r) }
+pub(crate) fn atomic_end(s: &mut ParserState, atomicity: Atomicity, r: Ending) -> Ending
+    ensures { (tokens scratch : List ℕ) → view_end tokens scratch s.new result ≡ atomic_back atomicity (view_end tokens scratch s.old r) }
 {
-    set_atomicity(s, atomicity);
+    s.atomicity = atomicity;
     r
 }
 
 // Kind 14, after its line: "Push adds the span on Ok."
 pub(crate) fn push_end(
     scratch: &mut [u32],
-    s: &mut [usize],
+    s: &mut ParserState,
     line: u32,
     start: BytePosition,
     r: Ending,
 ) -> Ending
-    requires state_size_in_bounds { state_size ≤ length s.old }
-    requires push_end_ready { PushEndReady scratch.old start (fields s.old) r }
-    ensures { (text tokens : List ℕ) → view_end tokens scratch.new (fields s.new) result ≡ Pest.push_end text true line start.0 (view_end tokens scratch.old (fields s.old) r) }
+    requires { PushEndReady scratch.old start s.old r }
+    ensures { (text tokens : List ℕ) → view_end tokens scratch.new s.new result ≡ Pest.push_end text true line start.0 (view_end tokens scratch.old s.old r) }
 {
     match r {
         Ending::Ok => stack_push_end(scratch, s, line, start),
@@ -169,44 +158,30 @@ pub(crate) fn push_end(
 fn rule_ok(
     tokens: &mut [u32],
     scratch: &mut [u32],
-    s: &mut [usize],
+    s: &mut ParserState,
     room: usize,
-    line: u32,
-    rule: u32,
-    position: BytePosition,
-    index: TokenIndex,
-    n: Noted,
+    b: &Begun,
 ) -> Ending
-    requires state_size_in_bounds { state_size ≤ length s.old }
-    requires rule_ok_ready { RuleOkReady tokens.old scratch.old room index.0 (fields s.old) }
-    ensures { (g : Setting) → g.capacity ≡ room → view_end tokens.new scratch.new (fields s.new) result ≡ Pest.rule_end g true line rule position.0 index.0 n.positives n.negatives n.total (Model.Ok (view tokens.old scratch.old (fields s.old))) }
+    requires { RuleOkReady tokens.old scratch.old room b.now.index.0 s.old }
+    ensures { (g : Setting) → g.capacity ≡ room → view_end tokens.new scratch.new s.new result ≡ rule_ended g b.now (Model.Ok (view tokens.old scratch.old s.old)) }
 {
-    let due = is_negative(lookahead(s));
-    match track_rule(scratch, s, due, line, rule, position, n) {
-        Ending::Ok => close_rule(tokens, s, room, line, rule, index),
+    let due = s.lookahead == Lookahead::Negative;
+    match track_rule(scratch, s, due, b) {
+        Ending::Ok => close_rule(tokens, s, room, b),
         Ending::Err => Ending::Err,
         Ending::Stop(c) => Ending::Stop(c),
     }
 }
 
 // A rule whose body failed is tracked, unless under a negative lookahead, and its tokens go.
-fn rule_err(
-    scratch: &mut [u32],
-    s: &mut [usize],
-    line: u32,
-    rule: u32,
-    position: BytePosition,
-    index: TokenIndex,
-    n: Noted,
-) -> Ending
-    requires state_size_in_bounds { state_size ≤ length s.old }
-    requires tracking { Tracking scratch.old (fields s.old) }
-    ensures { (g : Setting) (tokens : List ℕ) → view_end tokens scratch.new (fields s.new) result ≡ Pest.rule_end g true line rule position.0 index.0 n.positives n.negatives n.total (Model.Err (view tokens scratch.old (fields s.old))) }
+fn rule_err(scratch: &mut [u32], s: &mut ParserState, b: &Begun) -> Ending
+    requires { Tracking scratch.old s.old }
+    ensures { (g : Setting) (tokens : List ℕ) → view_end tokens scratch.new s.new result ≡ rule_ended g b.now (Model.Err (view tokens scratch.old s.old)) }
 {
-    let due = !is_negative(lookahead(s));
-    match track_rule(scratch, s, due, line, rule, position, n) {
+    let due = s.lookahead != Lookahead::Negative;
+    match track_rule(scratch, s, due, b) {
         Ending::Ok => {
-            drop_rule(s, index);
+            drop_rule(s, b.index);
             Ending::Err
         }
         Ending::Err => Ending::Err,
@@ -214,26 +189,21 @@ fn rule_err(
     }
 }
 
-// Kind 8, after its line, from what it noted before: `index` is the place of its Start.
+// Kind 8, after its line, from what it noted before.
 pub(crate) fn rule_end(
     tokens: &mut [u32],
     scratch: &mut [u32],
-    s: &mut [usize],
+    s: &mut ParserState,
     room: usize,
-    line: u32,
-    rule: u32,
-    position: BytePosition,
-    index: TokenIndex,
-    n: Noted,
+    b: &Begun,
     r: Ending,
 ) -> Ending
-    requires state_size_in_bounds { state_size ≤ length s.old }
-    requires rule_end_ready { RuleEndReady tokens.old scratch.old room index.0 (fields s.old) r }
-    ensures { (g : Setting) → g.capacity ≡ room → view_end tokens.new scratch.new (fields s.new) result ≡ Pest.rule_end g true line rule position.0 index.0 n.positives n.negatives n.total (view_end tokens.old scratch.old (fields s.old) r) }
+    requires { RuleEndReady tokens.old scratch.old room b.now.index.0 s.old r }
+    ensures { (g : Setting) → g.capacity ≡ room → view_end tokens.new scratch.new s.new result ≡ rule_ended g b.now (view_end tokens.old scratch.old s.old r) }
 {
     match r {
-        Ending::Ok => rule_ok(tokens, scratch, s, room, line, rule, position, index, n),
-        Ending::Err => rule_err(scratch, s, line, rule, position, index, n),
+        Ending::Ok => rule_ok(tokens, scratch, s, room, b),
+        Ending::Err => rule_err(scratch, s, b),
         Ending::Stop(c) => Ending::Stop(c),
     }
 }

@@ -22,6 +22,7 @@ pub struct Ends {
 }
 
 // The line, numbered from 1.
+// Kept: the bound, here and in `ends_at`, as at checks' `node_at`; this one reads the fields as natural numbers, which an accepted line's are.
 pub(crate) fn line_at(nodes: &[i32], line: usize) -> Line
     requires { (1 ≤ line) × (line * 4 ≤ length nodes.now) }
     ensures { result ≡ line_of (node_at nodes.now line) }
@@ -30,12 +31,7 @@ pub(crate) fn line_at(nodes: &[i32], line: usize) -> Line
     let a = natural_of(nodes[line * 4 - 3]);
     let b = natural_of(nodes[line * 4 - 2]);
     let c = natural_of(nodes[line * 4 - 1]);
-    Line {
-        kind: kind,
-        a: a,
-        b: b,
-        c: c,
-    }
+    Line { kind, a, b, c }
 }
 
 // Fields a and b of a line of kind 16 as they are.
@@ -45,8 +41,5 @@ pub(crate) fn ends_at(nodes: &[i32], line: usize) -> Ends
 {
     let start = nodes[line * 4 - 3];
     let end = nodes[line * 4 - 2];
-    Ends {
-        start: start,
-        end: end,
-    }
+    Ends { start, end }
 }

@@ -21,19 +21,11 @@ pub(crate) fn descend(nodes: &[i32], top: usize) -> Spine
     let mut count = 0;
     loop {
         let n = line_at(nodes, line);
-        let kind = n.kind;
-        match kind {
-            6 | 7 => {
-                line = n.a;
-                count += 1;
-            }
-            _ => {
-                return Spine {
-                    count: count,
-                    line: line,
-                };
-            }
+        if !is_fork(n.kind) {
+            return Spine { count, line };
         }
+        line = n.a;
+        count += 1;
     }
 }
 
@@ -43,11 +35,8 @@ pub(crate) fn spine_at(nodes: &[i32], top: usize, i: usize) -> usize
     ensures { result ≡ spine_line nodes.now top i }
 {
     let mut line = top;
-    let mut j = 0;
-    while j < i {
-        let n = line_at(nodes, line);
-        line = n.a;
-        j += 1;
+    for _ in 0..i {
+        line = line_at(nodes, line).a;
     }
     line
 }
@@ -56,7 +45,7 @@ pub(crate) fn spine_at(nodes: &[i32], top: usize, i: usize) -> usize
 pub(crate) fn is_fork(kind: usize) -> bool
     ensures { (result ≡ true → Fork kind) × (result ≡ false → Fork kind → ⊥) }
 {
-    if kind == 6 { true } else { kind == 7 }
+    kind == 6 || kind == 7
 }
 
 // Whether the line's right side is evaluated, where its left side ended so. Only a fork has one.

@@ -1,19 +1,18 @@
 // pest's stack.rs over the scratch area: entries, popped entries and open checkpoints, two numbers each.
-ghost use Rattle.std.specs.Prelude.{◌≡◌, ◌+◌, ◌≤◌, ◌<◌, length};
+ghost use Rattle.std.specs.Prelude.{◌≡◌, ◌+◌, ◌≤◌, ◌<◌, length, option_map};
 ghost use Rattle.reading.specs.Pest.{snapshot, clear_snapshot, restore};
 ghost use Rattle.reading.specs.Reading.{most_entries, most_debt};
 ghost use Rattle.engine.specs.Areas.{span, stack_of, scratch_size};
-ghost use Rattle.engine.specs.Pairs.{drained, refilled};
-ghost use Rattle.engine.specs.Bounded.{pushed, taken, push_of, take_of};
+ghost use Rattle.engine.specs.Pairs.{refilled};
+ghost use Rattle.engine.specs.Bounded.{pushed, taken, take_of};
 ghost use Rattle.engine.specs.StackReady.{StackReady, OutsideStack, most_checkpoints};
 
-use crate::areas::{
-    ENTRIES_AT, LENGTHS_AT, MOST_DEBT, MOST_ENTRIES, POPPED_AT, Pair, copy_pair, pair_at, put_pair,
-};
+use crate::areas::{ENTRIES_AT, LENGTHS_AT, MOST_DEBT, MOST_ENTRIES, POPPED_AT, pair_at, put_pair};
 use matching::position::BytePosition;
 use matching::span::Span;
 
 // pest's `Stack` in the scratch area: how many entries, popped entries and open checkpoints stand in their regions.
+// Kept: counts, and no Vecs, as in parser_state.rt.
 #[derive(Clone, Copy)]
 pub struct Stack {
     pub height: usize,
@@ -21,45 +20,43 @@ pub struct Stack {
     pub checkpoints: usize,
 }
 
+// Why nothing is popped: there is no entry, or no room to owe it.
 #[derive(Clone, Copy)]
-pub enum Pushed {
-    Kept(Stack),
-    Full,
-}
-
-#[derive(Clone, Copy)]
-pub enum Popped {
-    Got(Stack, Span),
+pub enum Unpopped {
     Empty,
     Full,
 }
 
-pub(crate) fn push(scratch: &mut [u32], s: Stack, start: u32, end: u32) -> Pushed
+// Kept: `StackReady` stands in each contract here (and `StateReady` in stack_state.rt). It ties the counts to the area that they count in,
+// which is lent on its own, so that no invariant of the counts could say it.
+
+// None: the stack is full.
+pub(crate) fn push(scratch: &mut [u32], s: Stack, start: u32, end: u32) -> Option<Stack>
     requires { StackReady scratch.old s }
-    ensures state_after { push_of scratch.new result ≡ pushed (span start end) (stack_of scratch.old s) }
+    ensures state_after { option_map (stack_of scratch.new) result ≡ pushed (span start end) (stack_of scratch.old s) }
     ensures outside_stack { OutsideStack scratch.old scratch.new }
 {
     let h = s.height;
     if h < MOST_ENTRIES {
-        put_pair(scratch, ENTRIES_AT, h, start, end);
-        Pushed::Kept(Stack { height: h + 1, ..s })
+        put_pair(scratch, ENTRIES_AT, h, (start, end));
+        Some(Stack { height: h + 1, ..s })
     } else {
-        Pushed::Full
+        None
     }
 }
 
 // The span that a pair of numbers says.
-pub(crate) fn span_of(x: Pair) -> Span
-    ensures { (result.start.0 ≡ x.first) × (result.end.0 ≡ x.second) }
+pub(crate) fn span_of(x: (u32, u32)) -> Span
+    ensures { (result.start.0 ≡ x.0) × (result.end.0 ≡ x.1) }
 {
     Span {
-        start: BytePosition(x.first as usize),
-        end: BytePosition(x.second as usize),
+        start: BytePosition(x.0 as usize),
+        end: BytePosition(x.1 as usize),
     }
 }
 
 // Where the stack is at its lowest since the innermost checkpoint, the checkpoint comes to owe the entry that goes.
-pub(crate) fn pop(scratch: &mut [u32], s: Stack) -> Popped
+pub(crate) fn pop(scratch: &mut [u32], s: Stack) -> Result<(Stack, Span), Unpopped>
     requires { StackReady scratch.old s }
     ensures state_after { take_of scratch.new result ≡ taken (stack_of scratch.old s) }
     ensures outside_stack { OutsideStack scratch.old scratch.new }
@@ -68,30 +65,27 @@ pub(crate) fn pop(scratch: &mut [u32], s: Stack) -> Popped
     let c = s.checkpoints;
     let p = s.popped;
     if h == 0 {
-        return Popped::Empty;
+        return Err(Unpopped::Empty);
     }
     let x = pair_at(scratch, ENTRIES_AT, h - 1);
+    let lower = Stack { height: h - 1, ..s };
     if c == 0 {
-        return Popped::Got(Stack { height: h - 1, ..s }, span_of(x));
+        return Ok((lower, span_of(x)));
     }
     let top = pair_at(scratch, LENGTHS_AT, c - 1);
-    if top.second as usize != h {
-        return Popped::Got(Stack { height: h - 1, ..s }, span_of(x));
+    if top.1 as usize != h {
+        return Ok((lower, span_of(x)));
     }
-    if p < MOST_DEBT {
-        put_pair(scratch, LENGTHS_AT, c - 1, top.first, top.second - 1);
-        put_pair(scratch, POPPED_AT, p, x.first, x.second);
-        Popped::Got(
-            Stack {
-                height: h - 1,
-                popped: p + 1,
-                ..s
-            },
-            span_of(x),
-        )
-    } else {
-        Popped::Full
+    if p == MOST_DEBT {
+        return Err(Unpopped::Full);
     }
+    put_pair(scratch, LENGTHS_AT, c - 1, (top.0, top.1 - 1));
+    put_pair(scratch, POPPED_AT, p, x);
+    let owing = Stack {
+        popped: p + 1,
+        ..lower
+    };
+    Ok((owing, span_of(x)))
 }
 
 pub(crate) fn snapshot(scratch: &mut [u32], s: Stack) -> Stack
@@ -101,22 +95,10 @@ pub(crate) fn snapshot(scratch: &mut [u32], s: Stack) -> Stack
 {
     let h = s.height;
     let c = s.checkpoints;
-    put_pair(scratch, LENGTHS_AT, c, h as u32, h as u32);
+    put_pair(scratch, LENGTHS_AT, c, (h as u32, h as u32));
     Stack {
         checkpoints: c + 1,
         ..s
-    }
-}
-
-// Moves `n` popped entries from the index `from` down to the index `to`.
-fn drain(scratch: &mut [u32], to: usize, from: usize, n: usize)
-    requires { (to ≤ from) × (from + n ≤ most_debt) × (scratch_size ≤ length scratch.old) }
-    ensures { scratch.new ≡ drained scratch.old to from n }
-{
-    let mut i = 0;
-    while i < n {
-        copy_pair(scratch, POPPED_AT, to + i, POPPED_AT, from + i);
-        i += 1;
     }
 }
 
@@ -125,10 +107,9 @@ fn refill(scratch: &mut [u32], low: usize, p: usize, n: usize)
     requires { (n ≤ p) × (p ≤ most_debt) × (low + n ≤ most_entries) × (scratch_size ≤ length scratch.old) }
     ensures { scratch.new ≡ refilled scratch.old low p n }
 {
-    let mut i = 0;
-    while i < n {
-        copy_pair(scratch, ENTRIES_AT, low + i, POPPED_AT, p - i - 1);
-        i += 1;
+    for i in 0..n {
+        let x = pair_at(scratch, POPPED_AT, p - i - 1);
+        put_pair(scratch, ENTRIES_AT, low + i, x);
     }
 }
 
@@ -143,9 +124,8 @@ pub(crate) fn clear_snapshot(scratch: &mut [u32], s: Stack) -> Stack
     if c == 0 {
         return s;
     }
-    let top = pair_at(scratch, LENGTHS_AT, c - 1);
-    let low = top.second;
-    let n = (top.first - low) as usize;
+    let (tall, low) = pair_at(scratch, LENGTHS_AT, c - 1);
+    let n = (tall - low) as usize;
     if c == 1 {
         return Stack {
             popped: p - n,
@@ -153,23 +133,17 @@ pub(crate) fn clear_snapshot(scratch: &mut [u32], s: Stack) -> Stack
             ..s
         };
     }
-    let outer = pair_at(scratch, LENGTHS_AT, c - 2);
-    let was = outer.second;
-    if low < was {
-        let kept = (was - low) as usize;
-        put_pair(scratch, LENGTHS_AT, c - 2, outer.first, low);
-        drain(scratch, p - n, p - kept, kept);
-        Stack {
-            popped: p - n + kept,
-            checkpoints: c - 1,
-            ..s
-        }
-    } else {
-        Stack {
-            popped: p - n,
-            checkpoints: c - 1,
-            ..s
-        }
+    let (outer, was) = pair_at(scratch, LENGTHS_AT, c - 2);
+    let kept = was.saturating_sub(low) as usize;
+    let lowest = was.min(low);
+    put_pair(scratch, LENGTHS_AT, c - 2, (outer, lowest));
+    let from = POPPED_AT + (p - kept) * 2;
+    let to = POPPED_AT + (p - n) * 2;
+    scratch.copy_within(from..from + kept * 2, to);
+    Stack {
+        popped: p - n + kept,
+        checkpoints: c - 1,
+        ..s
     }
 }
 
@@ -185,8 +159,8 @@ pub(crate) fn restore(scratch: &mut [u32], s: Stack) -> Stack
         return Stack { height: 0, ..s };
     }
     let top = pair_at(scratch, LENGTHS_AT, c - 1);
-    let tall = top.first as usize;
-    let low = top.second as usize;
+    let tall = top.0 as usize;
+    let low = top.1 as usize;
     let n = tall - low;
     refill(scratch, low, p, n);
     Stack {

@@ -4,11 +4,11 @@ ghost use Rattle.matching.specs.Answers.{matched};
 ghost use Rattle.reading.specs.Pest.{ParserState, set_stack, as_str, slice, all_match, stack_match_pop};
 ghost use Rattle.engine.specs.Areas.{stack_of};
 ghost use Rattle.engine.specs.StackReady.{StackReady, OutsideStack};
-ghost use Rattle.engine.specs.StackMatch.{entry_at, next_of, match_end};
+ghost use Rattle.engine.specs.StackMatch.{entry_at, index_at, match_end};
 
 use crate::areas::{ENTRIES_AT, pair_at};
-use crate::stack::{Popped, Stack, pop, span_of};
-use matching::position::{BytePosition, Matched, match_string};
+use crate::stack::{Stack, pop, span_of};
+use matching::position::{BytePosition, match_string};
 use matching::span::as_bytes;
 
 // The bytes of the entry at an index from the bottom, as a part of the text.
@@ -20,34 +20,16 @@ pub(crate) fn entry<'a>(text: &'a [u8], scratch: &[u32], index: usize) -> &'a [u
     as_bytes(text, span_of(x))
 }
 
-// The entry that comes first in a slice, and the slice without it.
-#[derive(Clone, Copy)]
-pub struct Next {
-    pub index: usize,
-    pub low: usize,
-    pub high: usize,
-}
-
-fn next_entry(low: usize, high: usize, down: bool) -> Next
-    requires { low < high }
-    ensures { result ≡ next_of low high down }
+// The index of the entry that comes at turn k of a slice, where k counts up from `start`.
+fn index_at(start: usize, end: usize, k: usize, down: bool) -> usize
+    requires { (start ≤ k) × (k < end) }
+    ensures { result ≡ index_at start end k down }
 {
-    if down {
-        Next {
-            index: high - 1,
-            low: low,
-            high: high - 1,
-        }
-    } else {
-        Next {
-            index: low,
-            low: low + 1,
-            high: high,
-        }
-    }
+    if down { end - 1 - (k - start) } else { k }
 }
 
 // Matches the entries from `start` to before `end`, in either direction: all, or it fails.
+// Kept: two ends and a direction: a struct of them would be made at the one call and taken apart here at once.
 pub(crate) fn match_slice(
     text: &[u8],
     scratch: &[u32],
@@ -56,77 +38,60 @@ pub(crate) fn match_slice(
     start: usize,
     end: usize,
     down: bool,
-) -> Matched
+) -> Option<BytePosition>
     requires { StackReady scratch.now s × (end ≤ s.height) }
     ensures { result ≡ matched (all_match text.now (slice start end down (stack_of scratch.now s).cache) pos.0) }
 {
     let mut at = pos;
-    let mut low = start;
-    let mut high = end;
-    while low < high {
-        let next = next_entry(low, high, down);
-        let i = next.index;
-        let Matched::At(q) = match_string(text, at, entry(text, scratch, i)) else {
-            return Matched::Failed;
-        };
-        at = q;
-        low = next.low;
-        high = next.high;
+    for k in start..end {
+        let i = index_at(start, end, k, down);
+        at = match_string(text, at, entry(text, scratch, i))?;
     }
-    Matched::At(at)
-}
-
-#[derive(Clone, Copy)]
-pub enum MatchPopped {
-    Matched(Stack, BytePosition),
-    Failed(Stack),
-    Full,
+    Some(at)
 }
 
 // Whether n bytes stand at the position `at` of a text of `size` bytes.
 fn has_room(size: usize, at: usize, n: usize) -> bool
     ensures { result ≡ leb (at + n) size }
 {
-    if size < at {
-        return false;
-    }
-    n <= size - at
+    at <= size && n <= size - at
 }
 
-// "keeps popping entries until one fails to match; failing, .. popped entries are gone"
-pub(crate) fn match_pop(text: &[u8], scratch: &mut [u32], s: Stack, p: BytePosition) -> MatchPopped
+// "keeps popping entries until one fails to match; failing, .. popped entries are gone": the stack, and where a match ends.
+// None: there is no room to owe an entry.
+pub(crate) fn match_pop(
+    text: &[u8],
+    scratch: &mut [u32],
+    s: Stack,
+    p: BytePosition,
+) -> Option<(Stack, Option<BytePosition>)>
     requires { StackReady scratch.old s }
     ensures state_after { (line : ℕ) → (m : ParserState) → match_end scratch.new line m result ≡ stack_match_pop text.now true line (stack_of scratch.old s).cache p.0 (set_stack (stack_of scratch.old s) m) }
     ensures outside_stack { OutsideStack scratch.old scratch.new }
 {
     let mut t = s;
     let mut at = p.0;
+    // Kept: the loop with its label, and not `starts_with`: the project's scope names this form for "keeps popping".
     let matched = 'entries: loop {
         let h = t.height;
         if h == 0 {
-            break true;
+            break Some(BytePosition(at));
         }
-        let Popped::Got(u, x) = pop(scratch, t) else {
-            return MatchPopped::Full;
+        let Ok((u, x)) = pop(scratch, t) else {
+            return None;
         };
         t = u;
         let bytes = as_bytes(text, x);
         let n = bytes.len();
         if !has_room(text.len(), at, n) {
-            break false;
+            break None;
         }
-        let mut i = 0;
-        while i < n {
+        for i in 0..n {
             if text[at + i] != bytes[i] {
-                break 'entries false;
+                break 'entries None;
             }
-            i += 1;
         }
         at += n;
     };
-    if matched {
-        MatchPopped::Matched(t, BytePosition(at))
-    } else {
-        MatchPopped::Failed(t)
-    }
+    Some((t, matched))
 }

@@ -1,28 +1,19 @@
 // The run: pest's `state` over lent areas, with document 01's refusals and stops.
 ghost use Rattle.std.specs.Prelude.{◌≡◌, List, ℕ, ◌≤◌, length};
-ghost use Rattle.std.proofs.Math.Option.{none};
 ghost use Rattle.reading.specs.Pest as Pest;
-ghost use Rattle.engine.specs.Fields.{state_size, fields};
 ghost use Rattle.engine.specs.Areas.{view};
 ghost use Rattle.reading.specs.Outcome.{refusal, capacity};
-ghost use Rattle.engine.specs.Conclude.{outcome_of};
+ghost use Rattle.engine.specs.Conclude.{outcome_of, refused_with};
 ghost use Rattle.reading.specs.Run.{input, Ran};
 
-use crate::attempts::Attempts;
 use crate::conclude::conclude;
-use crate::fields::{
-    STATE_SIZE, set_atomicity, set_attempts, set_lookahead, set_position, set_queue, set_stack,
-    set_tracker,
-};
-use crate::parser_state::packed_node;
-use crate::stack::Stack;
-use checks::call_limit_tracker::{CallLimitTracker, LimitReached};
+use crate::parser_state::{ParserState, packed_node};
+use crate::setting::Setting;
 use checks::grammar::{Refused, refusal};
 use checks::packed::unpacked;
-use matching::position::{BytePosition, TokenIndex};
-use reading::parser_state::{Atomicity, Lookahead};
 
 // What a run and a sheet reading return: document 01, "Each returns number, place, count".
+// Kept: numbers, and no Result: they are what document 01's table and C's interface give.
 #[derive(Clone, Copy)]
 pub struct Outcome {
     pub number: u32,
@@ -30,51 +21,27 @@ pub struct Outcome {
     pub count: u32,
 }
 
-// The state at the start of a run (pest's `ParserState::new`). A call limit of 0 is none.
-fn new(s: &mut [usize], call_limit: u32)
-    requires { state_size ≤ length s.old }
-    ensures { (tokens scratch : List ℕ) → view tokens scratch (fields s.new) ≡ Pest.new call_limit }
-{
-    let limit = call_limit as usize;
-    set_position(s, BytePosition(0));
-    set_queue(s, TokenIndex(0));
-    set_attempts(
-        s,
-        Attempts {
-            furthest: BytePosition(0),
-            positives: 0,
-            negatives: 0,
-        },
-    );
-    set_stack(
-        s,
-        Stack {
-            height: 0,
-            popped: 0,
-            checkpoints: 0,
-        },
-    );
-    set_tracker(
-        s,
-        CallLimitTracker {
-            current: 0,
-            limit: limit,
-            reached: LimitReached::No,
-        },
-    );
-    set_lookahead(s, Lookahead::None);
-    set_atomicity(s, Atomicity::NonAtomic);
+impl From<Refused> for Outcome {
+    ghost from_gives = { λ e r. r ≡ refused_with e };
+
+    fn from(refused: Refused) -> Outcome {
+        Outcome {
+            number: refused.number(),
+            place: refused.place(),
+            count: 0,
+        }
+    }
 }
 
 // "Capacity is a fifth of the area, rounded down, at most 65,535."
 fn capacity_of(tokens: &[u32]) -> usize
     ensures { result ≡ capacity tokens.now }
 {
-    let fifth = tokens.len() / 5;
-    if fifth <= 65535 { fifth } else { 65535 }
+    (tokens.len() / 5).min(65535)
 }
 
 // A run that no test refuses.
+// Kept: the parameters are those of `run`.
 fn started<'a>(
     nodes: &[i32],
     literals: &'a [u8],
@@ -85,21 +52,25 @@ fn started<'a>(
     report: &mut [u32],
     scratch: &mut [u32],
 ) -> Outcome
-    requires { refusal (input nodes.now literals.now text.now depth_limit call_limit tokens.old report.old (length scratch.old)) ≡ none }
+    requires { refusal (input nodes.now literals.now text.now depth_limit call_limit tokens.old report.old (length scratch.old)) ≡ None }
     ensures { Ran (input nodes.now literals.now text.now depth_limit call_limit tokens.old report.old (length scratch.old)) (outcome_of result tokens.new report.new) scratch.old scratch.new }
 {
     let room = capacity_of(tokens);
     let root = nodes.len() / 4;
     let depth = depth_limit as usize;
-    let mut state = [0; STATE_SIZE];
-    new(&mut state, call_limit);
-    let r = packed_node(
-        nodes, literals, text, tokens, scratch, &mut state, room, depth, root,
-    );
+    let mut state = ParserState::new(call_limit);
+    let setting = Setting {
+        nodes,
+        literals,
+        text,
+        room,
+    };
+    let r = packed_node(&setting, tokens, scratch, &mut state, depth, root);
     conclude(tokens, scratch, report, &state, unpacked(r))
 }
 
 // Document 01's run. A refused one leaves all areas.
+// Kept: each input and each area on its own, as C's interface hands them in.
 pub fn run<'a>(
     nodes: &[i32],
     literals: &'a [u8],
@@ -112,15 +83,16 @@ pub fn run<'a>(
 ) -> Outcome
     ensures { Ran (input nodes.now literals.now text.now depth_limit call_limit tokens.old report.old (length scratch.old)) (outcome_of result tokens.new report.new) scratch.old scratch.new }
 {
-    let m = report.len();
-    let k = scratch.len();
-    match refusal(nodes, literals, text, depth_limit, m, k) {
-        Refused::By(number, place) => Outcome {
-            number: number,
-            place: place,
-            count: 0,
-        },
-        Refused::No => started(
+    match refusal(
+        nodes,
+        literals,
+        text,
+        depth_limit,
+        report.len(),
+        scratch.len(),
+    ) {
+        Err(refused) => Outcome::from(refused),
+        Ok(()) => started(
             nodes,
             literals,
             text,

@@ -4,7 +4,7 @@ use Prim.Native.Nat.{ℕ, ◌+◌, ◌-◌, ◌*◌, ◌≤◌}
 use native.Mathlib.Omega.{arith}
 use mathlib.Core.Path.{◌≡◌, sym, ap, ◌∙◌, subst}
 use mathlib.Core.List.{List, ◌++◌}
-use mathlib.Core.Option.{Option, none, some}
+use Rattle.std.specs.Prelude.{Option, None, Some}
 use lib.IntN.{ℤ, pos}
 use lib.ListN.{length, take, drop, replicate, length-append, length-replicate}
 use lib.Seq.{take_at}
@@ -44,14 +44,14 @@ module _ (n m : ℕ) where
   laid_counted : (r : Ending State) → Counted (laid n m (answer r))
   laid_counted (Ok s) = go s.tracker.cause
     where
-      go : (c : Option LimitKind) → Counted (laid n m (elim c as (λ _. Answer) [ some k ↦ of_limit k s.attempts.furthest | none ↦ of_tokens (tokens s.siblings) ]))
-      go none = in_tokens (tokens s.siblings)
-      go (some k) = limit_counted k s.attempts.furthest
+      go : (c : Option LimitKind) → Counted (laid n m (elim c as (λ _. Answer) [ Some k ↦ of_limit k s.attempts.furthest | None ↦ of_tokens (tokens s.siblings) ]))
+      go None = in_tokens (tokens s.siblings)
+      go (Some k) = limit_counted k s.attempts.furthest
   laid_counted (Err s) = go s.tracker.cause
     where
-      go : (c : Option LimitKind) → Counted (laid n m (elim c as (λ _. Answer) [ some k ↦ of_limit k s.attempts.furthest | none ↦ of_failure s.attempts.furthest (ascending s.attempts.positive) (ascending s.attempts.negative) ]))
-      go none = in_report s.attempts.furthest (ascending s.attempts.positive) (ascending s.attempts.negative)
-      go (some k) = limit_counted k s.attempts.furthest
+      go : (c : Option LimitKind) → Counted (laid n m (elim c as (λ _. Answer) [ Some k ↦ of_limit k s.attempts.furthest | None ↦ of_failure s.attempts.furthest (ascending s.attempts.positive) (ascending s.attempts.negative) ]))
+      go None = in_report s.attempts.furthest (ascending s.attempts.positive) (ascending s.attempts.negative)
+      go (Some k) = limit_counted k s.attempts.furthest
   laid_counted (Stop (Cause.EmptyStack l)) = by_tokens (omega arith)
   laid_counted (Stop (Cause.TokensFull l)) = by_tokens (omega arith)
   laid_counted (Stop (Cause.StackFull l)) = by_tokens (omega arith)
@@ -61,9 +61,9 @@ counted : (i : Input) → Counted (outcome i)
 unfolding outcome
 counted i = go (refusal i)
   where
-    go : (x : Option Refusal) → Counted (elim x as (λ _. Outcome) [ some r ↦ refused i r | none ↦ started i (answer (reading i)) ])
-    go none = laid_counted (length i.tokens) (length i.report) (reading i)
-    go (some r) = by_tokens (omega arith)
+    go : (x : Option Refusal) → Counted (elim x as (λ _. Outcome) [ Some r ↦ refused i r | None ↦ started i (answer (reading i)) ])
+    go None = laid_counted (length i.tokens) (length i.report) (reading i)
+    go (Some r) = by_tokens (omega arith)
 
 answer_counted : (x : Sheet.Reading) (g : Given) → Counted (answer_to x g)
 answer_counted (Sheet.refused n p) g = by_tokens (omega arith)

@@ -15,6 +15,7 @@ const CALL_LIMIT: u32 = 0;
 
 // The listing of three texts at the start of the area; answers how many bytes that are. 0, and the area as it was, where the area is too
 // short for it; 199,897 bytes hold every listing.
+// Kept: a listing has a line at least, so 0 is no listing's size, as with `write_listing`.
 pub fn list_texts<'a>(sheet: &[u8], literals: &'a [u8], text: &'a [u8], out: &mut [u8]) -> usize
     ensures { Listed sheet.now literals.now text.now out.old out.new result }
 {

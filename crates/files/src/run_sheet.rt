@@ -5,6 +5,7 @@ use engine::state::{Outcome, run};
 use sheet::sheet::read_sheet;
 
 // Document 01's tests and stops in order, 1 to 16. A refused sheet leaves all areas, a refused run those of the run.
+// Kept: document 01 lends each area on its own and answers number, place and count; so does C's interface, which these follow.
 pub fn run_sheet<'a>(
     sheet: &[u8],
     literals: &'a [u8],

@@ -17,12 +17,15 @@ use sheet::sheet::read_sheet;
 #[derive(Clone, Copy)]
 pub struct ParserCoreOutcome(pub u32, pub u32, pub u32);
 
-fn handed_back(o: Outcome) -> ParserCoreOutcome
-    ensures { returned result ≡ o }
-{
-    ParserCoreOutcome(o.number, o.place, o.count)
+impl From<Outcome> for ParserCoreOutcome {
+    ghost from_gives = { λ o r. returned r ≡ o };
+
+    fn from(o: Outcome) -> Self {
+        ParserCoreOutcome(o.number, o.place, o.count)
+    }
 }
 
+// Kept: each input and each area on its own, and once more in parser_core_c: the C interface.
 #[unsafe(no_mangle)]
 pub extern "C" fn parser_core_run<'a>(
     nodes: &[i32],
@@ -34,9 +37,10 @@ pub extern "C" fn parser_core_run<'a>(
     report: &mut [u32],
     scratch: &mut [u32],
 ) -> ParserCoreOutcome
-    ensures { Ran (input nodes.now literals.now text.now depth_limit call_limit tokens.old report.old (length scratch.old)) (outcome_of (returned result) tokens.new report.new) scratch.old scratch.new }
+    ensures { Ran (input nodes.now literals.now text.now depth_limit call_limit tokens.old report.old (length scratch.old))
+        (outcome_of (returned result) tokens.new report.new) scratch.old scratch.new }
 {
-    let o = run(
+    run(
         nodes,
         literals,
         text,
@@ -45,14 +49,13 @@ pub extern "C" fn parser_core_run<'a>(
         tokens,
         report,
         scratch,
-    );
-    handed_back(o)
+    )
+    .into()
 }
 
 #[unsafe(no_mangle)]
 pub extern "C" fn parser_core_read_sheet(sheet: &[u8], nodes: &mut [i32]) -> ParserCoreOutcome
     ensures { SheetRead sheet.now nodes.old nodes.new (returned result) }
 {
-    let o = read_sheet(sheet, nodes);
-    handed_back(o)
+    read_sheet(sheet, nodes).into()
 }

@@ -1,5 +1,7 @@
 // The parser core as a static library: what C and Rust link. Each export calls the function of crate parser_core that has its name, and
-// promises what that one does: a crate is a library or a static library, not both.
+// promises what that one does.
+// Kept: the exports stand twice, here and in parser_core, for the C interface: a crate is a library or a static library, not both, and the
+// proofs and parser_core_test use them as a library.
 #![tactic(auto)]
 
 ghost use Rattle.std.specs.Prelude.{length};
@@ -21,7 +23,8 @@ pub extern "C" fn parser_core_run<'a>(
     report: &mut [u32],
     scratch: &mut [u32],
 ) -> ParserCoreOutcome
-    ensures { Ran (input nodes.now literals.now text.now depth_limit call_limit tokens.old report.old (length scratch.old)) (outcome_of (returned result) tokens.new report.new) scratch.old scratch.new }
+    ensures { Ran (input nodes.now literals.now text.now depth_limit call_limit tokens.old report.old (length scratch.old))
+        (outcome_of (returned result) tokens.new report.new) scratch.old scratch.new }
 {
     parser_core::parser_core_run(
         nodes,
@@ -42,8 +45,9 @@ pub extern "C" fn parser_core_read_sheet(sheet: &[u8], nodes: &mut [i32]) -> Par
     parser_core::parser_core_read_sheet(sheet, nodes)
 }
 
-// Calls the export as C does, by position: the arguments in the order of rust/parser-core/include/parser_core.h. A contract goes by names, so
-// an export whose names change places is refused here.
+// Calls the export as C does, by position: the arguments in the order of rust/parser-core/include/parser_core.h. A contract goes by names,
+// so an export whose names change places is refused here.
+// Kept: eight parameters, and once more in parser_core_test: C's order of arguments.
 fn run_by_position<'a>(
     nodes: &[i32],
     literals: &'a [u8],
@@ -54,7 +58,8 @@ fn run_by_position<'a>(
     report: &mut [u32],
     scratch: &mut [u32],
 ) -> ParserCoreOutcome
-    ensures { Ran (input nodes.now literals.now text.now depth_limit call_limit tokens.old report.old (length scratch.old)) (outcome_of (returned result) tokens.new report.new) scratch.old scratch.new }
+    ensures { Ran (input nodes.now literals.now text.now depth_limit call_limit tokens.old report.old (length scratch.old))
+        (outcome_of (returned result) tokens.new report.new) scratch.old scratch.new }
 {
     parser_core_run(
         nodes,

@@ -9,36 +9,34 @@ ghost use Rattle.reading.specs.Run.{input, Ran};
 ghost use Rattle.parser_core.specs.Returned.{returned};
 
 use parser_core::{ParserCoreOutcome, parser_core_read_sheet, parser_core_run};
-use std::io;
+use std::{fmt, io};
 
-fn put_number(rt: &impl Print, n: u32) -> io::Result<()> {
-    print!(rt; " {n}")
-}
+// An outcome by the places of its fields, as C reads it.
+#[derive(Clone, Copy)]
+struct ByPosition(ParserCoreOutcome);
 
-fn put_outcome(rt: &impl Print, name: &[u8], o: ParserCoreOutcome) -> io::Result<()> {
-    rt.write_all(name)?;
-    rt.write_all(b":")?;
-    put_number(rt, o.0)?;
-    put_number(rt, o.1)?;
-    put_number(rt, o.2)
-}
-
-// The first numbers of an area.
-fn put_first(rt: &impl Print, area: &[u32], count: usize) -> io::Result<()> {
-    rt.write_all(b" |")?;
-    for i in 0..count {
-        if i < area.len() {
-            put_number(rt, area[i])?;
-        }
+impl fmt::Display for ByPosition {
+    fn fmt<W: fmt::Write>(&self, f: &mut fmt::Formatter<W>) -> fmt::Result {
+        let ByPosition(ParserCoreOutcome(number, place, count)) = *self;
+        write!(f, "{number} {place} {count}")
     }
-    Ok(())
 }
 
-fn end_line(rt: &impl Print) -> io::Result<()> {
-    rt.write_all(b"\n")
+// The numbers of an area, each behind a space.
+#[derive(Clone, Copy)]
+struct Numbers<'a>(&'a [u32]);
+
+impl fmt::Display for Numbers<'_> {
+    fn fmt<W: fmt::Write>(&self, f: &mut fmt::Formatter<W>) -> fmt::Result {
+        for n in self.0 {
+            write!(f, " {n}")?;
+        }
+        Ok(())
+    }
 }
 
 // The header's order of arguments, with its promise of each for all input.
+// Kept: eight parameters, and once more in parser_core_c: each calls another crate's export by position, in C's order of arguments.
 fn run_by_position<'a>(
     nodes: &[i32],
     literals: &'a [u8],
@@ -49,7 +47,8 @@ fn run_by_position<'a>(
     report: &mut [u32],
     scratch: &mut [u32],
 ) -> ParserCoreOutcome
-    ensures { Ran (input nodes.now literals.now text.now depth_limit call_limit tokens.old report.old (length scratch.old)) (outcome_of (returned result) tokens.new report.new) scratch.old scratch.new }
+    ensures { Ran (input nodes.now literals.now text.now depth_limit call_limit tokens.old report.old (length scratch.old))
+        (outcome_of (returned result) tokens.new report.new) scratch.old scratch.new }
 {
     parser_core_run(
         nodes,
@@ -66,7 +65,7 @@ fn run_by_position<'a>(
 // A run over the literals `abc`: the outcome, the tokens area, and the first numbers of the report.
 fn list(
     rt: &impl Print,
-    name: &[u8],
+    name: &str,
     nodes: &[i32],
     text: &[u8],
     depth: u32,
@@ -85,39 +84,44 @@ fn list(
         &mut report,
         &mut scratch,
     );
-    put_outcome(rt, name, o)?;
-    put_first(rt, &tokens, 22)?;
-    put_first(rt, &report, 6)?;
-    end_line(rt)
+    println!(rt;
+        "{name}: {} |{} |{}",
+        ByPosition(o),
+        Numbers(&tokens),
+        Numbers(&report[..6])
+    )
+}
+
+fn read(rt: &impl Print, name: &str, sheet: &[u8], nodes: &mut [i32]) -> io::Result<()> {
+    let o = parser_core_read_sheet(sheet, nodes);
+    println!(rt; "{name}: {}", ByPosition(o))
 }
 
 // Rule 7 over `a`, then rule 8 over `bc` or rule 9 over `c`, in a sequence: a rule stands at depth 2.
-fn read(rt: &impl Print, nodes: &mut [i32]) -> io::Result<()> {
-    let o = parser_core_read_sheet(
-        b"   1           0           1           0\n   8           7           1           0\n   1           1           2           0\n   8           8           3           0\n   1           2           1           0\n   8           9           5           0\n   7           4           6           0\n   6           2           7           0\n   9           8           0           0\n",
-        nodes,
-    );
-    put_outcome(rt, b"sheet", o)?;
-    end_line(rt)
-}
+const SHEET: &[u8] = b"   1           0           1           0
+   8           7           1           0
+   1           1           2           0
+   8           8           3           0
+   1           2           1           0
+   8           9           5           0
+   7           4           6           0
+   6           2           7           0
+   9           8           0           0
+";
 
 // The third line is malformed.
-fn read_malformed(rt: &impl Print, nodes: &mut [i32]) -> io::Result<()> {
-    let o = parser_core_read_sheet(
-        b"   1           0           1           0\n   5           0           0           0\n   8          +7           1           0\n",
-        nodes,
-    );
-    put_outcome(rt, b"malformed sheet", o)?;
-    end_line(rt)
-}
+const MALFORMED: &[u8] = b"   1           0           1           0
+   5           0           0           0
+   8          +7           1           0
+";
 
 fn main(rt: HostRuntime) -> io::Result<()> {
     let mut nodes = [5i32; 36];
-    read(&rt, &mut nodes)?;
-    read_malformed(&rt, &mut nodes)?;
-    list(&rt, b"parsed", &nodes, b"abc", 2, 0)?;
-    list(&rt, b"failed", &nodes, b"aa", 2, 0)?;
-    list(&rt, b"stopped by the call limit", &nodes, b"abc", 2, 1)?;
-    list(&rt, b"stopped by the depth limit", &nodes, b"abc", 1, 2)?;
-    list(&rt, b"refused", &nodes, b"abc", 0, 2)
+    read(&rt, "sheet", SHEET, &mut nodes)?;
+    read(&rt, "malformed sheet", MALFORMED, &mut nodes)?;
+    list(&rt, "parsed", &nodes, b"abc", 2, 0)?;
+    list(&rt, "failed", &nodes, b"aa", 2, 0)?;
+    list(&rt, "stopped by the call limit", &nodes, b"abc", 2, 1)?;
+    list(&rt, "stopped by the depth limit", &nodes, b"abc", 1, 2)?;
+    list(&rt, "refused", &nodes, b"abc", 0, 2)
 }

@@ -4,283 +4,248 @@
 
 mod print;
 
-use crate::print::{print_files, print_folder};
-use std::io::Write;
-use std::rt::{Files, Runtime};
+use crate::print::{Paths, print_files, print_folder};
+use std::rt::Runtime;
 use std::{fs, io};
 
-// A file of a part, so many times over.
-fn put(rt: &impl Files, path: &str, part: &[u8], times: u64) -> io::Result<()> {
-    let mut file = fs::create(rt, path)?;
-    for _ in 0..times {
-        file.write_all(part)?;
-    }
-    Ok(())
-}
+const EMPTY_LINE: &str = "   5           0           0           0\n";
 
-fn heading(rt: &impl Print, name: &[u8]) -> io::Result<()> {
-    rt.write_all(name)?;
-    rt.write_all(b":\n")
+const REPEATED_LETTER: &str =
+    "   1           0           1           0\n  10           1           0           0\n";
+
+fn list(rt: &impl Runtime, name: &str, paths: Paths<'_>) -> io::Result<()> {
+    println!(rt; "{name}:")?;
+    print_files(rt, paths)
 }
 
 // The three files as they stand.
-fn list(rt: &impl Runtime, name: &[u8]) -> io::Result<()> {
-    heading(rt, name)?;
+fn list_folder(rt: &impl Runtime, name: &str) -> io::Result<()> {
+    println!(rt; "{name}:")?;
     print_folder(rt)
-}
-
-fn put_grammar(rt: &impl Runtime, sheet: &[u8], literals: &[u8]) -> io::Result<()> {
-    put(rt, "sheet.txt", sheet, 1)?;
-    put(rt, "literals.txt", literals, 1)
 }
 
 fn case(
     rt: &impl Runtime,
-    name: &[u8],
-    sheet: &[u8],
+    name: &str,
+    sheet: &str,
     literals: &[u8],
     text: &[u8],
 ) -> io::Result<()> {
-    put_grammar(rt, sheet, literals)?;
-    put(rt, "plan.txt", text, 1)?;
-    list(rt, name)
+    fs::write(rt, "sheet.txt", sheet)?;
+    fs::write(rt, "literals.txt", literals)?;
+    fs::write(rt, "plan.txt", text)?;
+    list_folder(rt, name)
 }
 
-// A grammar that stands in files, over a part so many times as the text.
-fn over(
-    rt: &impl Runtime,
-    name: &[u8],
-    sheet: &str,
-    literals: &str,
-    part: &[u8],
-    times: u64,
-) -> io::Result<()> {
-    put(rt, "plan.txt", part, times)?;
-    heading(rt, name)?;
-    print_files(rt, sheet, literals, "plan.txt")
-}
-
-// A sheet over a part so many times as the text.
-fn long(rt: &impl Runtime, name: &[u8], sheet: &[u8], part: &[u8], times: u64) -> io::Result<()> {
-    put_grammar(rt, sheet, b"abc")?;
-    put(rt, "plan.txt", part, times)?;
-    list(rt, name)
+// A grammar that stands in files, over a text.
+fn over(rt: &impl Runtime, name: &str, sheet: &str, literals: &str, text: &[u8]) -> io::Result<()> {
+    fs::write(rt, "plan.txt", text)?;
+    let text = "plan.txt";
+    list(
+        rt,
+        name,
+        Paths {
+            sheet,
+            literals,
+            text,
+        },
+    )
 }
 
 // Copies of the folders of examples/.
 fn examples(rt: &impl Runtime) -> io::Result<()> {
-    heading(rt, b"first")?;
-    print_files(
-        rt,
-        "first/sheet.txt",
-        "first/literals.txt",
-        "first/plan.txt",
-    )?;
-    heading(rt, b"channels")?;
-    print_files(
-        rt,
-        "channels/sheet.txt",
-        "channels/literals.txt",
-        "channels/plan.txt",
-    )?;
-    heading(rt, b"json")?;
-    print_files(rt, "json/sheet.txt", "json/literals.txt", "json/plan.txt")?;
-    heading(rt, b"heredoc")?;
-    print_files(
-        rt,
-        "heredoc/sheet.txt",
-        "heredoc/literals.txt",
-        "heredoc/plan.txt",
-    )
+    for example in ["first", "channels", "json", "heredoc"] {
+        let sheet = format!(in rt.alloc(); "{example}/sheet.txt")?;
+        let literals = format!(in rt.alloc(); "{example}/literals.txt")?;
+        let text = format!(in rt.alloc(); "{example}/plan.txt")?;
+        let paths = Paths {
+            sheet: sheet.as_str(),
+            literals: literals.as_str(),
+            text: text.as_str(),
+        };
+        list(rt, example, paths)?;
+    }
+    Ok(())
 }
 
 fn sheets(rt: &impl Runtime) -> io::Result<()> {
-    heading(rt, b"no files")?;
-    print_files(rt, "none", "none", "none")?;
-    heading(rt, b"a folder for a sheet")?;
-    print_files(rt, "first", "first/literals.txt", "first/plan.txt")?;
-    case(rt, b"empty sheet", b"", b"", b"")?;
+    let missing = Paths {
+        sheet: "none",
+        literals: "none",
+        text: "none",
+    };
+    list(rt, "no files", missing)?;
+    let folder = Paths {
+        sheet: "first",
+        literals: "first/literals.txt",
+        text: "first/plan.txt",
+    };
+    list(rt, "a folder for a sheet", folder)?;
+    case(rt, "empty sheet", "", b"", b"")?;
     case(
         rt,
-        b"40 bytes a line",
-        b"  1           0           1           0\n",
+        "40 bytes a line",
+        "  1           0           1           0\n",
         b"abc",
         b"a",
     )?;
     case(
         rt,
-        b"malformed field",
-        b"   1           0           1           0\n   8          +7           1           0\n",
+        "malformed field",
+        "   1           0           1           0\n   8          +7           1           0\n",
         b"abc",
         b"a",
     )?;
-    case(
-        rt,
-        b"empty literals and text",
-        b"   5           0           0           0\n",
-        b"",
-        b"",
-    )
+    case(rt, "empty literals and text", EMPTY_LINE, b"", b"")
 }
 
 // 41 times 1,598 is 65,518; 41 times 1,599 is 65,559.
 fn long_sheets(rt: &impl Runtime) -> io::Result<()> {
-    let line = b"   5           0           0           0\n";
-    put(rt, "sheet.txt", line, 1598)?;
-    list(rt, b"sheet of 65,518 bytes")?;
-    put(rt, "sheet.txt", line, 1599)?;
-    list(rt, b"sheet of 65,559 bytes")
+    fs::write(rt, "sheet.txt", EMPTY_LINE.repeat(rt.alloc(), 1598)?)?;
+    list_folder(rt, "sheet of 65,518 bytes")?;
+    fs::write(rt, "sheet.txt", EMPTY_LINE.repeat(rt.alloc(), 1599)?)?;
+    list_folder(rt, "sheet of 65,559 bytes")
 }
 
 fn literals(rt: &impl Runtime) -> io::Result<()> {
-    let line = b"   1       65534           1           0\n";
-    case(rt, b"literals not UTF-8", line, b"\xC3\x28", b"a")?;
-    put(rt, "literals.txt", b"aaaaaaaaaaaaaaa", 4369)?;
-    list(rt, b"literals of 65,535 bytes")?;
-    put(rt, "literals.txt", b"aaaaaaaaaaaaaaaa", 4096)?;
-    list(rt, b"literals of 65,536 bytes")
+    let line = "   1       65534           1           0\n";
+    case(rt, "literals not UTF-8", line, b"\xC3\x28", b"a")?;
+    fs::write(rt, "literals.txt", "a".repeat(rt.alloc(), 65535)?)?;
+    list_folder(rt, "literals of 65,535 bytes")?;
+    fs::write(rt, "literals.txt", "a".repeat(rt.alloc(), 65536)?)?;
+    list_folder(rt, "literals of 65,536 bytes")
 }
 
 fn grammars(rt: &impl Runtime) -> io::Result<()> {
     case(
         rt,
-        b"line against the table",
-        b"   1           0           1           0\n   9           2           0           0\n",
+        "line against the table",
+        "   1           0           1           0\n   9           2           0           0\n",
         b"abc",
         b"a",
     )?;
     case(
         rt,
-        b"repeat body may stand still",
-        b"   1           0           0           0\n  10           1           0           0\n",
+        "repeat body may stand still",
+        "   1           0           0           0\n  10           1           0           0\n",
         b"abc",
         b"a",
     )
 }
 
 fn texts(rt: &impl Runtime) -> io::Result<()> {
-    let sheet =
-        b"   1           0           1           0\n  10           1           0           0\n";
-    case(rt, b"text not UTF-8", sheet, b"abc", b"\xED\xA0\x80")?;
-    long(rt, b"text of 65,535 bytes", sheet, b"aaaaaaaaaaaaaaa", 4369)?;
-    long(
+    let longest = "a".repeat(rt.alloc(), 65535)?;
+    let too_long = "a".repeat(rt.alloc(), 65536)?;
+    case(
         rt,
-        b"text of 65,536 bytes",
-        sheet,
-        b"aaaaaaaaaaaaaaaa",
-        4096,
+        "text not UTF-8",
+        REPEATED_LETTER,
+        b"abc",
+        b"\xED\xA0\x80",
+    )?;
+    case(
+        rt,
+        "text of 65,535 bytes",
+        REPEATED_LETTER,
+        b"abc",
+        longest.as_bytes(),
+    )?;
+    case(
+        rt,
+        "text of 65,536 bytes",
+        REPEATED_LETTER,
+        b"abc",
+        too_long.as_bytes(),
     )
 }
 
 // Where two tests refuse, the first one's number counts.
 fn order(rt: &impl Runtime) -> io::Result<()> {
-    case(rt, b"1 before 4", b" ", b"\xFF", b"a")?;
-    case(
-        rt,
-        b"2 before 4",
-        b"   1           0           1           x\n",
-        b"\xFF",
-        b"a",
-    )?;
-    case(
-        rt,
-        b"4 before 5",
-        b"   0           0           0           0\n",
-        b"\xFF",
-        b"a",
-    )?;
-    long(
-        rt,
-        b"5 before 7",
-        b"   0           0           0           0\n",
-        b"aaaaaaaaaaaaaaaa",
-        4096,
-    )?;
-    long(
-        rt,
-        b"6 before 7",
-        b"   5           0           0           0\n  10           1           0           0\n",
-        b"aaaaaaaaaaaaaaaa",
-        4096,
-    )
+    let too_long = "a".repeat(rt.alloc(), 65536)?;
+    let wrong_field = "   1           0           1           x\n";
+    let no_kind = "   0           0           0           0\n";
+    let still =
+        "   5           0           0           0\n  10           1           0           0\n";
+    case(rt, "1 before 4", " ", b"\xFF", b"a")?;
+    case(rt, "2 before 4", wrong_field, b"\xFF", b"a")?;
+    case(rt, "4 before 5", no_kind, b"\xFF", b"a")?;
+    case(rt, "5 before 7", no_kind, b"abc", too_long.as_bytes())?;
+    case(rt, "6 before 7", still, b"abc", too_long.as_bytes())
 }
 
 fn failures(rt: &impl Runtime) -> io::Result<()> {
     over(
         rt,
-        b"a positive",
+        "a positive",
         "first/sheet.txt",
         "first/literals.txt",
         b"b",
-        1,
     )?;
     // no rule 7 over `a`, or else rule 8 over `b`
     over(
         rt,
-        b"a positive and a negative",
+        "a positive and a negative",
         "both_signs.txt",
         "first/literals.txt",
         b"a",
-        1,
     )?;
     over(
         rt,
-        b"channels, a comma for the point",
+        "channels, a comma for the point",
         "channels/sheet.txt",
         "channels/literals.txt",
         b"R-NORD 145600.000 -600000\nR-SUD 145612,500 -600000\n",
-        1,
     )?;
     over(
         rt,
-        b"heredoc, a note that is not closed",
+        "heredoc, a note that is not closed",
         "heredoc/sheet.txt",
         "heredoc/literals.txt",
         b"07:40 north: <<END\nNothing\n08:00 base: END\n",
-        1,
     )
 }
 
 fn depth(rt: &impl Runtime) -> io::Result<()> {
     case(
         rt,
-        b"a rule that calls itself first",
-        b"  20           2           0           0\n   8           7           1           0\n",
+        "a rule that calls itself first",
+        "  20           2           0           0\n   8           7           1           0\n",
         b"",
         b"a",
     )?;
+    let brackets = "[".repeat(rt.alloc(), 1000)?;
     over(
         rt,
-        b"json, 1,000 open brackets",
+        "json, 1,000 open brackets",
         "json/sheet.txt",
         "json/literals.txt",
-        b"[",
-        1000,
+        brackets.as_bytes(),
     )
 }
 
 // `a`, so many times over, for a sheet that stands in a file of its own.
-fn letters(rt: &impl Runtime, name: &[u8], sheet: &str, times: u64) -> io::Result<()> {
-    over(rt, name, sheet, "first/literals.txt", b"a", times)
+fn letters(rt: &impl Runtime, name: &str, sheet: &str, count: usize) -> io::Result<()> {
+    let text = "a".repeat(rt.alloc(), count)?;
+    over(rt, name, sheet, "first/literals.txt", text.as_bytes())
 }
 
 fn stops(rt: &impl Runtime) -> io::Result<()> {
     case(
         rt,
-        b"pop of an empty stack",
-        b"  15           0           0           0\n",
+        "pop of an empty stack",
+        "  15           0           0           0\n",
         b"",
         b"a",
     )?;
     // rule 7 over `a`, as long as `a` is ahead, then `c`
-    letters(rt, b"1,638 pairs", "pairs.txt", 1638)?;
-    letters(rt, b"1,639 pairs", "pairs.txt", 1639)?;
+    letters(rt, "1,638 pairs", "pairs.txt", 1638)?;
+    letters(rt, "1,639 pairs", "pairs.txt", 1639)?;
     // push of `a`, over and over
-    letters(rt, b"128 entries", "pushes.txt", 128)?;
-    letters(rt, b"129 entries", "pushes.txt", 129)?;
+    letters(rt, "128 entries", "pushes.txt", 128)?;
+    letters(rt, "129 entries", "pushes.txt", 129)?;
     // an optional rule over `a`, so many times one after the other, where no text is left
-    letters(rt, b"256 attempts", "attempts_256.txt", 0)?;
-    letters(rt, b"257 attempts", "attempts_257.txt", 0)
+    letters(rt, "256 attempts", "attempts_256.txt", 0)?;
+    letters(rt, "257 attempts", "attempts_257.txt", 0)
 }
 
 fn main(rt: HostRuntime) -> io::Result<()> {

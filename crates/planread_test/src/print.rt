@@ -1,18 +1,31 @@
-// Reads three files by their names and prints their listing. planread_test runs this very file: its own print.rt is a copy of it.
-ghost use Rattle.std.specs.Prelude.{◌≡◌, ◌≤◌, length, take};
+// Reads three files by their names and prints their listing.
+// Kept: this file stands twice, in planread and in planread_test, and the gate compares the two. As a library its functions would be public
+// without a contract: no clause can say what a file holds or what was written.
+ghost use Rattle.std.specs.Prelude.{◌≤◌, length, take};
+ghost use Rattle.std.specs.Io.KnownBytes.{Consumes};
 
 use files::list_texts;
 use std::io::Read;
 use std::rt::Files;
 use std::{fs, io};
 
-// Reads until the buffer is full, the file ends or a read fails; answers how many bytes that were.
-fn read_full(file: &mut impl Read, buf: &mut [u8]) -> usize
-    ensures { result ≤ length buf.new }
+// Where the three files stand.
+#[derive(Clone, Copy)]
+pub(crate) struct Paths<'a> {
+    pub sheet: &'a str,
+    pub literals: &'a str,
+    pub text: &'a str,
+}
+
+// Reads until the buffer is full, the input ends or a read fails; answers how many bytes that were. They are the reader's next ones.
+// Kept: a loop of its own. std's `read_exact` says how many bytes there were only where the buffer was filled, `read_to_end` takes heap.
+fn read_full<R: Read>(reader: &mut R, buf: &mut [u8]) -> usize
+    ensures bound { result ≤ length buf.new }
+    ensures bytes { Consumes (R.remaining reader.old) (R.remaining reader.new) (take result buf.new) }
 {
     let mut done = 0;
     while done < buf.len() {
-        match file.read(&mut buf[done..]) {
+        match reader.read(&mut buf[done..]) {
             Ok(n) if 0 < n => done += n,
             _ => break,
         }
@@ -20,33 +33,31 @@ fn read_full(file: &mut impl Read, buf: &mut [u8]) -> usize
     done
 }
 
-// The file's first bytes, and how many; a file that is missing is empty. A buffer of 65,536 bytes is full where the file has more than
+// The file's first bytes, in the buffer; a file that is missing is empty. A buffer of 65,536 bytes is full where the file has more than
 // 65,535, and then the tests for 1, 4 and 7 refuse it.
-fn load(rt: &impl Files, path: &str, buf: &mut [u8]) -> usize
-    ensures { (result ≤ length buf.new) × (result ≡ length (take result buf.new)) }
+fn load<'a>(rt: &impl Files, path: &str, buf: &'a mut [u8]) -> &'a [u8]
+    ensures { length result.now ≤ length buf.old }
 {
-    match fs::open(rt, path) {
+    let n = match fs::open(rt, path) {
         Ok(mut file) => read_full(&mut file, buf),
         Err(_) => 0,
-    }
+    };
+    &buf[..n]
 }
 
 // 199,897 bytes hold every listing (`whole_listing`, files/proofs/ListedLaws). One that cannot be written whole is told of, and the error
-// ends the program.
-pub(crate) fn print_files(
-    rt: &(impl Files + Print + Eprint),
-    sheet_name: &str,
-    literals_name: &str,
-    text_name: &str,
-) -> io::Result<()> {
+// is handed on. Nothing is promised: no clause can say what a file holds or what was written (docs/DECISIONS.md, 31).
+pub(crate) fn print_files(rt: &(impl Files + Print + Eprint), paths: Paths<'_>) -> io::Result<()> {
     let mut sheet = [0u8; 65536];
-    let s = load(rt, sheet_name, &mut sheet);
     let mut literals = [0u8; 65536];
-    let l = load(rt, literals_name, &mut literals);
     let mut text = [0u8; 65536];
-    let t = load(rt, text_name, &mut text);
     let mut out = [0u8; 199897];
-    let n = list_texts(&sheet[..s], &literals[..l], &text[..t], &mut out);
+    let n = list_texts(
+        load(rt, paths.sheet, &mut sheet),
+        load(rt, paths.literals, &mut literals),
+        load(rt, paths.text, &mut text),
+        &mut out,
+    );
     let written = rt.write_all(&out[..n]);
     if written.is_err() {
         eprintln!(rt; "planread: the listing could not be written whole")?;
@@ -56,5 +67,12 @@ pub(crate) fn print_files(
 
 // The three files of the folder that the program is run in.
 pub(crate) fn print_folder(rt: &(impl Files + Print + Eprint)) -> io::Result<()> {
-    print_files(rt, "sheet.txt", "literals.txt", "plan.txt")
+    print_files(
+        rt,
+        Paths {
+            sheet: "sheet.txt",
+            literals: "literals.txt",
+            text: "plan.txt",
+        },
+    )
 }

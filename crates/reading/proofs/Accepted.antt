@@ -4,7 +4,7 @@ use Rattle.std.specs.Prelude.{if◌then◌else◌}
 use mathlib.Core.Path.{◌≡◌, refl, sym, ap, ap₂, ◌∙◌, subst}
 use mathlib.Core.Bool.{Bool, true, false, ◌&&◌, ◌||◌, not, true≢false}
 use mathlib.Core.List.{List, [], ◌∷◌}
-use mathlib.Core.Option.{Option, none, some}
+use Rattle.std.specs.Prelude.{Option, None, Some}
 use Prim.Native.Nat.{ℕ, zero, suc, ◌+◌, ◌-◌, ◌*◌, ◌≤◌, ◌<◌}
 use native.Mathlib.Omega.{arith}
 use native.Mathlib.Decide.{dec_le}
@@ -25,17 +25,17 @@ use Rattle.reading.proofs.NullableLaws.{nullable_is}
 use Rattle.reading.proofs.Trees.{still, Steady, Literals, Calls, whole, Plain}
 
 -- ── A search that finds nothing ──
-first_none : (test : ℕ → Bool) (l n : ℕ) → first_line test l n ≡ none → (k : ℕ) → l ≤ k → k < l + n → test k ≡ false
+first_none : (test : ℕ → Bool) (l n : ℕ) → first_line test l n ≡ None → (k : ℕ) → l ≤ k → k < l + n → test k ≡ false
 first_none test l zero e k lo hi = absurd (omega arith)
 first_none test l (suc n) e k lo hi = go (test l) refl e (first_none test (suc l) n) (dec_le (suc l) k)
   where
-    go : (b : Bool) → test l ≡ b → (if b then some l else first_line test (suc l) n) ≡ none
-        → (first_line test (suc l) n ≡ none → (k : ℕ) → suc l ≤ k → k < suc l + n → test k ≡ false) → Dec (suc l ≤ k) → test k ≡ false
+    go : (b : Bool) → test l ≡ b → (if b then Some l else first_line test (suc l) n) ≡ None
+        → (first_line test (suc l) n ≡ None → (k : ℕ) → suc l ≤ k → k < suc l + n → test k ≡ false) → Dec (suc l ≤ k) → test k ≡ false
     go true t q r d = let z : ◌≡◌ {A = ℕ} 0 1 = cc in absurd (omega arith)
     go false t q r (yes h) = r q k h (omega arith)
     go false t q r (no h) = let z : k ≡ l = omega arith in ap test z ∙ t
 
-pub none_found : (test : ℕ → Bool) (n : ℕ) → first_line test 1 n ≡ none → (k : ℕ) → 1 ≤ k → k ≤ n → test k ≡ false
+pub none_found : (test : ℕ → Bool) (n : ℕ) → first_line test 1 n ≡ None → (k : ℕ) → 1 ≤ k → k ≤ n → test k ≡ false
 none_found test n e k lo hi = first_none test 1 n e k lo (omega arith)
 
 -- ── The tests passed ──
@@ -47,18 +47,18 @@ pub record Accepted (ns : List ℤ) (literals : List ℕ) : Type 0 where
   -- No repeat has a body that may stand still.
   pub moves : (l : ℕ) → 1 ≤ l → l ≤ line_count ns → kind_at ns l ≡ 10 → nullable ns (natural (node_at ns l).a) ≡ false
 
-pub misfit_fours : (ns : List ℤ) (literals : List ℕ) → misfit ns literals ≡ none → (eqb (line_count ns * 4) (length ns) && within 1 4096 (line_count ns)) ≡ true
+pub misfit_fours : (ns : List ℤ) (literals : List ℕ) → misfit ns literals ≡ None → (eqb (line_count ns * 4) (length ns) && within 1 4096 (line_count ns)) ≡ true
 misfit_fours ns literals e = go (eqb (line_count ns * 4) (length ns) && within 1 4096 (line_count ns)) e
   where
-    go : (b : Bool) → (if b then first_line (λ (l : ℕ). not (line_fits ns literals l)) 1 (line_count ns) else some 0) ≡ none → b ≡ true
+    go : (b : Bool) → (if b then first_line (λ (l : ℕ). not (line_fits ns literals l)) 1 (line_count ns) else Some 0) ≡ None → b ≡ true
     go true q = refl
     go false q = let z : ◌≡◌ {A = ℕ} 0 1 = cc in absurd (omega arith)
 
-pub accepted : (ns : List ℤ) (literals : List ℕ) → misfit ns literals ≡ none → still_repeat ns ≡ none → Accepted ns literals
+pub accepted : (ns : List ℤ) (literals : List ℕ) → misfit ns literals ≡ None → still_repeat ns ≡ None → Accepted ns literals
 accepted ns literals m s =
     let t : (eqb (line_count ns * 4) (length ns) && within 1 4096 (line_count ns)) ≡ true = misfit_fours ns literals m in
     let w : (1 ≤ line_count ns) × (line_count ns ≤ 4096) = within_true 1 4096 (line_count ns) (and_right (eqb (line_count ns * 4) (length ns)) _ t) in
-    let f : first_line (λ (l : ℕ). not (line_fits ns literals l)) 1 (line_count ns) ≡ none = rw t at m in
+    let f : first_line (λ (l : ℕ). not (line_fits ns literals l)) 1 (line_count ns) ≡ None = rw t at m in
     record {
       fours = eqb-true (line_count ns * 4) (length ns) (and_left (eqb (line_count ns * 4) (length ns)) _ t);
       some_line = w.0;
@@ -315,13 +315,6 @@ module _ (ns : List ℤ) (literals : List ℕ) (g : Accepted ns literals) (l : �
   pub tree_kind : (k : ℕ) → kind_at ns l ≡ k → tree_at ns literals l ≡ get_or (tree_rows literals (tree_at ns literals) l (node_at ns l)) (k - 1) end_of_input
   tree_kind k q = tree_row ∙ ap (λ (j : ℕ). get_or (tree_rows literals (tree_at ns literals) l (node_at ns l)) (j - 1) end_of_input) q
 
-  -- `tree_kind` computes: kinds 6 and 20.
-  pub tree_6 : kind_at ns l ≡ 6 → tree_at ns literals l ≡ and_then (tree_at ns literals (natural (node_at ns l).a)) (tree_at ns literals (natural (node_at ns l).b))
-  tree_6 q = tree_kind 6 q
-
-  pub tree_20 : kind_at ns l ≡ 20 → tree_at ns literals l ≡ call (natural (node_at ns l).a)
-  tree_20 q = tree_kind 20 q
-
 -- ── What holds of every line's tree, by induction over the lines ──
 module _ (ns : List ℤ) (literals : List ℕ) (g : Accepted ns literals) where
   module _ (P : ℕ → Type 0) (step : (l : ℕ) → In ns l → ((x : ℕ) → Lower l x → P x) → P l) where
@@ -437,14 +430,6 @@ module _ (ns : List ℤ) (literals : List ℕ) (g : Accepted ns literals) (set :
       tree_still (natural (node_at ns l).b) (w.low, omega (arith, w.high, r.high))
       ∙ sym (nullable_is ns l r.low r.high ∙ ap (λ (k : ℕ). get_or (still_rows (eqb (natural (node_at ns l).a) 0) (eqb (natural (node_at ns l).b) 0) (nullable ns (natural (node_at ns l).a)) (nullable ns (natural (node_at ns l).b))) (k - 1) false) r.kind_is)
 
--- The same of the set itself.
-module _ (ns : List ℤ) (literals : List ℕ) (g : Accepted ns literals) where
-  pub nullable_tree : (l : ℕ) → In ns l → still (nullable ns) (tree_at ns literals l) ≡ nullable ns l
-  nullable_tree = tree_still ns literals g (nullable ns) (λ l r. refl)
-
-  pub steady_tree : (l : ℕ) → Steady (nullable ns) (tree_at ns literals l)
-  steady_tree = tree_steady ns literals g (nullable ns) (λ l r. refl)
-
 -- The set for laws that speak of every number as a line: a rule as the set says, any other line may.
 abbrev pub rule_still : List ℤ → ℕ → Bool
 rule_still ns l = not (within 1 (line_count ns) l && eqb (kind_at ns l) 8) || nullable ns l
@@ -475,7 +460,7 @@ plain_rows a b =
 abbrev not_six : List ℤ → ℕ → Bool
 not_six ns l = not (eqb (kind_at ns l) 6)
 
-module _ (ns : List ℤ) (literals : List ℕ) (g : Accepted ns literals) (p : plain ns ≡ none) where
+module _ (ns : List ℤ) (literals : List ℕ) (g : Accepted ns literals) (p : plain ns ≡ None) where
   plain_row : (l : ℕ) → In ns l → (k : ℕ) → kind_at ns l ≡ k → get_or (plain_rows (not_six ns (natural (node_at ns l).a)) (not_six ns (natural (node_at ns l).b))) (k - 1) false ≡ true
   plain_row l i k q =
       let f : plain_line ns l ≡ true = not-false (plain_line ns l) (none_found (λ j. not (plain_line ns j)) (line_count ns) p l i.0 i.1) in
@@ -530,8 +515,8 @@ module _ (ns : List ℤ) (literals : List ℕ) (g : Accepted ns literals) (p : p
 pub record Started (i : Input) : Type 0 where
   pub literals_short : length i.literals ≤ 65535
   pub literals_whole : Utf8 i.literals
-  pub fitting : misfit i.nodes i.literals ≡ none
-  pub moving : still_repeat i.nodes ≡ none
+  pub fitting : misfit i.nodes i.literals ≡ None
+  pub moving : still_repeat i.nodes ≡ None
   pub grammar : Accepted i.nodes i.literals
   pub text_short : length i.text ≤ 65535
   pub text_whole : Utf8 i.text
@@ -542,18 +527,18 @@ pub record Started (i : Input) : Type 0 where
 
 abbrev AllNone : List (Option Refusal) → Type 0
 AllNone [] = Unit {0}
-AllNone (t ∷ ts) = (t ≡ none) × AllNone ts
+AllNone (t ∷ ts) = (t ≡ None) × AllNone ts
 
-all_none : (ts : List (Option Refusal)) → first_of ts ≡ none → AllNone ts
+all_none : (ts : List (Option Refusal)) → first_of ts ≡ None → AllNone ts
 all_none [] e = tt
-all_none (none ∷ ts) e = (refl, all_none ts e)
-all_none (some r ∷ ts) e = let z : ◌≡◌ {A = ℕ} 0 1 = cc in absurd (omega arith)
+all_none (None ∷ ts) e = (refl, all_none ts e)
+all_none (Some r ∷ ts) e = let z : ◌≡◌ {A = ℕ} 0 1 = cc in absurd (omega arith)
 
-refuse_none : (n : ℕ) (o : Option ℕ) → refuse n o ≡ none → o ≡ none
-refuse_none n none e = refl
-refuse_none n (some p) e = let z : ◌≡◌ {A = ℕ} 0 1 = cc in absurd (omega arith)
+refuse_none : (n : ℕ) (o : Option ℕ) → refuse n o ≡ None → o ≡ None
+refuse_none n None e = refl
+refuse_none n (Some p) e = let z : ◌≡◌ {A = ℕ} 0 1 = cc in absurd (omega arith)
 
-unless_none : (b : Bool) → unless b ≡ none → b ≡ true
+unless_none : (b : Bool) → unless b ≡ None → b ≡ true
 unless_none true e = refl
 unless_none false e = let z : ◌≡◌ {A = ℕ} 0 1 = cc in absurd (omega arith)
 
@@ -563,17 +548,17 @@ good_short x e = leb-true (length x) 65535 (and_left (leb (length x) 65535) (is_
 good_whole : (x : List ℕ) → good_text x ≡ true → Utf8 x
 good_whole x e = (is_utf8_iff x).0 (and_right (leb (length x) 65535) (is_utf8 x) e)
 
-pub started : (i : Input) → refusal i ≡ none → Started i
+pub started : (i : Input) → refusal i ≡ None → Started i
 unfolding refusal
 started i e =
     let h : AllNone (tests i) = all_none (tests i) e in
-    let good : (n : ℕ) (b : Bool) → refuse n (unless b) ≡ none → b ≡ true = λ n b q. unless_none b (refuse_none n (unless b) q) in
+    let good : (n : ℕ) (b : Bool) → refuse n (unless b) ≡ None → b ≡ true = λ n b q. unless_none b (refuse_none n (unless b) q) in
     let g₄ : good_text i.literals ≡ true = good 4 (good_text i.literals) h.0 in
     let g₇ : good_text i.text ≡ true = good 7 (good_text i.text) h.1.1.1.0 in
     let d : (1 ≤ i.depth_limit) × (i.depth_limit ≤ 1024) = within_true 1 1024 i.depth_limit (good 8 (within 1 1024 i.depth_limit) h.1.1.1.1.0) in
     let a : (leb 515 (length i.report) && leb 4864 i.scratch) ≡ true = good 9 (leb 515 (length i.report) && leb 4864 i.scratch) h.1.1.1.1.1.0 in
-    let f : misfit i.nodes i.literals ≡ none = refuse_none 5 (misfit i.nodes i.literals) h.1.0 in
-    let m : still_repeat i.nodes ≡ none = refuse_none 6 (still_repeat i.nodes) h.1.1.0 in
+    let f : misfit i.nodes i.literals ≡ None = refuse_none 5 (misfit i.nodes i.literals) h.1.0 in
+    let m : still_repeat i.nodes ≡ None = refuse_none 6 (still_repeat i.nodes) h.1.1.0 in
     record {
       literals_short = good_short i.literals g₄;
       literals_whole = good_whole i.literals g₄;

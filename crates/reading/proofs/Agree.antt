@@ -2,7 +2,7 @@
 -- the simulation at the first state, and sorting without duplicates said in two ways.
 use mathlib.Core.Path.{◌≡◌, refl, sym, ap, ◌∙◌}
 use mathlib.Core.Bool.{Bool, true, false}
-use mathlib.Core.Option.{Option, none, some}
+use Rattle.std.specs.Prelude.{Option, None, Some}
 use mathlib.Core.List.{List, [], ◌∷◌}
 use mathlib.Core.Logic.{◌≢◌}
 use Prim.Native.Nat.{ℕ, zero, suc, ◌≤◌, ◌<◌}
@@ -115,11 +115,11 @@ answers r m (sim_ok s p i k) = go s.tracker.cause
     forest = rw i.base (sym (queue_tokens 0 s.siblings))
 
     given : List Token → Option LimitKind → Answer
-    given ts c = elim c [ some x ↦ of_limit x s.attempts.furthest | none ↦ of_tokens ts ]
+    given ts c = elim c [ Some x ↦ of_limit x s.attempts.furthest | None ↦ of_tokens ts ]
 
     go : (c : Option LimitKind) → given (tokens s.siblings) c ≡ given (tokens_of (queue_from s.outer s.siblings)) c
-    go (some x) = refl
-    go none = ap of_tokens forest
+    go (Some x) = refl
+    go None = ap of_tokens forest
 answers r m (sim_err s p i k) = refl
 answers r m (sim_stop c) = refl
 
@@ -145,19 +145,19 @@ result_is : (x : Ending ParserState) → Ends x → pest_answer x ≡ answer_to 
 result_is x (ends_ok m) = go m.call_tracker.limit_reached
   where
     given : Option LimitKind → Answer
-    given c = elim c [ some k ↦ of_limit k m.attempt_pos | none ↦ of_tokens (tokens_of m.queue) ]
+    given c = elim c [ Some k ↦ of_limit k m.attempt_pos | None ↦ of_tokens (tokens_of m.queue) ]
 
     go : (c : Option LimitKind) → given c ≡ answer_to (Pest.pairs_of c m)
-    go (some k) = refl
-    go none = refl
+    go (Some k) = refl
+    go None = refl
 result_is x (ends_err m) = go m.call_tracker.limit_reached
   where
     given : Option LimitKind → Answer
-    given c = elim c [ some k ↦ of_limit k m.attempt_pos | none ↦ of_failure m.attempt_pos (ascending m.pos_attempts) (ascending m.neg_attempts) ]
+    given c = elim c [ Some k ↦ of_limit k m.attempt_pos | None ↦ of_failure m.attempt_pos (ascending m.pos_attempts) (ascending m.neg_attempts) ]
 
     go : (c : Option LimitKind) → given c ≡ answer_to (Pest.error_of c m)
-    go (some k) = refl
-    go none = rw (ascending_is m.pos_attempts, ascending_is m.neg_attempts)
+    go (Some k) = refl
+    go None = rw (ascending_is m.pos_attempts, ascending_is m.neg_attempts)
 
 module _ (g : Setting) (set : ℕ → Bool) (w : Tested g set) (u : Utf8 g.text) (depth limit : ℕ) (e : Exp) (y : Literals e) (z : Steady set e) where
   -- Demand 2, the first half: a run that does not stop answers what `state` gives, and no loop of pest's uses up its rounds.

@@ -3,14 +3,15 @@
 use mathlib.Core.Path.{◌≡◌, refl, sym, ap, ◌∙◌, subst}
 use mathlib.Core.Bool.{Bool, true, false, ◌&&◌, cond}
 use mathlib.Core.List.{List, [], ◌∷◌, ◌++◌}
-use mathlib.Core.Option.{Option, none, some}
+use Rattle.std.specs.Prelude.{Option, None, Some, is_some}
 use Prim.Native.Nat.{ℕ, ◌+◌, ◌*◌, ◌≤◌, ◌<◌}
 use native.Mathlib.Omega.{arith}
 use lib.ListN.{length, take, drop, take-append-drop}
 use lib.Seq.{take-append_seam, drop-append-le}
 use lib.Dec.{eqb, leb}
 use borrow.Author.Tests.{eqb-true, eqb-false, eq-eqb, ne_eqb, leb-true}
-use Rattle.matching.specs.Utf8.{Range, range, tail, utf8_char, within, fits, value_of, Character, first_of, decode, Utf8, utf8_end, utf8_next, after_value, characters, is_some, Edge}
+use Rattle.matching.specs.Utf8.{Range, range, tail, utf8_char, within, fits, value_of, first_of, decode, Utf8, utf8_end, utf8_next, after_value, characters, Edge}
+use Rattle.matching.specs.declared.utf8.Character.{Character}
 use Rattle.matching.specs.Position.{starts_by, fold_case, same_folded}
 use Rattle.matching.proofs.Lead.{and_left, and_right, within_true, decode_nil}
 use Rattle.matching.proofs.Forward.{char_size}
@@ -83,11 +84,11 @@ data Rows (x : List ℕ) : List (List Range) → Type 0 where
   no_row : Rows x []
   ◌or_row◌ : {f : List Range} {fs : List (List Range)} → ((v : ℕ) → fits f x ≡ true → v ≡ value_of (length f) x → Form x (length f) v) → Rows x fs → Rows x (f ∷ fs)
 
-by_rows : (x : List ℕ) (fs : List (List Range)) → Rows x fs → (c : Character) → first_of fs x ≡ some c → Form x c.size c.value
+by_rows : (x : List ℕ) (fs : List (List Range)) → Rows x fs → (c : Character) → first_of fs x ≡ Some c → Form x c.size c.value
 by_rows x fs no_row c e = let z : ◌≡◌ {A = ℕ} 0 1 = cc in absurd (omega arith)
 by_rows x _ (◌or_row◌ {f = f} {fs = gs} r rs) c e = go (fits f x) refl e (by_rows x gs rs c)
   where
-    go : (b : Bool) → fits f x ≡ b → cond b (some (record { size = length f; value = value_of (length f) x })) (first_of gs x) ≡ some c → (first_of gs x ≡ some c → Form x c.size c.value) → Form x c.size c.value
+    go : (b : Bool) → fits f x ≡ b → cond b (Some (record { size = length f; value = value_of (length f) x })) (first_of gs x) ≡ Some c → (first_of gs x ≡ Some c → Form x c.size c.value) → Form x c.size c.value
     go true q e ih =
         let k : record { size = length f; value = value_of (length f) x } ≡ c = cc in
         subst (λ (d : Character). Form x d.size d.value) k (r (value_of (length f) x) q refl)
@@ -106,7 +107,7 @@ table x =
     or_row form_four 0xF4 0xF4 0x80 0x8F (omega arith) (omega arith) (omega arith) (omega arith) (omega arith) x
     or_row no_row
 
-pub form_of : (x : List ℕ) (c : Character) → decode x ≡ some c → Form x c.size c.value
+pub form_of : (x : List ℕ) (c : Character) → decode x ≡ Some c → Form x c.size c.value
 unfolding decode
 form_of x c e = by_rows x utf8_char (table x) c e
 
@@ -256,26 +257,26 @@ module _ (same : ℕ → ℕ → Bool) (h : Ascii same) where
       (λ (z : v ≡ w). (omega (arith, p₁, p₂, p₃, q₁, q₂, q₃), omega (arith, p₁, p₂, p₃, q₁, q₂, q₃), omega (arith, p₁, p₂, p₃, q₁, q₂, q₃), omega (arith, p₁, p₂, p₃, q₁, q₂, q₃)))
       (λ (z : a ≡ b) (z₁ : t ≡ s) (z₂ : u ≡ r) (z₃ : i ≡ j). omega arith)
 
-  pub compared : (l x : List ℕ) (c d : Character) → decode l ≡ some c → decode x ≡ some d → Compared same l x c.size d.size c.value d.value
+  pub compared : (l x : List ℕ) (c d : Character) → decode l ≡ Some c → decode x ≡ Some d → Compared same l x c.size d.size c.value d.value
   compared l x c d e f = compare l x c.size d.size c.value d.value (form_of l c e) (form_of x d f)
 
-given : (o : Option (List ℕ)) → is_some o ≡ true → o ≡ some (or_nil o)
-given none e = no_byte e
-given (some vs) e = refl
+given : (o : Option (List ℕ)) → is_some o ≡ true → o ≡ Some (or_nil o)
+given None e = no_byte e
+given (Some vs) e = refl
 
-pub all_characters : (x : List ℕ) → Utf8 x → characters x ≡ some (characters_of x)
+pub all_characters : (x : List ℕ) → Utf8 x → characters x ≡ Some (characters_of x)
 all_characters x u = given (characters x) ((is_utf8_iff x).1 u)
 
 pub of_nil : characters_of [] ≡ []
 of_nil = ap or_nil characters_nil
 
-pub of_next : (x : List ℕ) (c : Character) → decode x ≡ some c → Utf8 (drop c.size x) → characters_of x ≡ c.value ∷ characters_of (drop c.size x)
+pub of_next : (x : List ℕ) (c : Character) → decode x ≡ Some c → Utf8 (drop c.size x) → characters_of x ≡ c.value ∷ characters_of (drop c.size x)
 of_next x c e u = ap or_nil (characters_next x c e ∙ ap (after_value c.value) (all_characters (drop c.size x) u))
 
 -- How a text of whole characters begins.
 pub data Begins (x : List ℕ) : Type 0 where
-  no_character : x ≡ [] → decode x ≡ none → characters_of x ≡ [] → Begins x
-  a_character : (c : Character) → decode x ≡ some c → Utf8 (drop c.size x) → characters_of x ≡ c.value ∷ characters_of (drop c.size x) → Begins x
+  no_character : x ≡ [] → decode x ≡ None → characters_of x ≡ [] → Begins x
+  a_character : (c : Character) → decode x ≡ Some c → Utf8 (drop c.size x) → characters_of x ≡ c.value ∷ characters_of (drop c.size x) → Begins x
 
 pub begins : (x : List ℕ) → Utf8 x → Begins x
 begins x utf8_end = no_character refl decode_nil of_nil
@@ -283,10 +284,10 @@ begins x (utf8_next x' c e u) = a_character c e u (of_next x' c e u)
 
 -- ── A text in two parts ──
 -- The first character of a text is the first of what it begins.
-decode_longer : (x y : List ℕ) (c : Character) → decode x ≡ some c → decode (x ++ y) ≡ some c
+decode_longer : (x y : List ℕ) (c : Character) → decode x ≡ Some c → decode (x ++ y) ≡ Some c
 decode_longer x y c e = decode_grow (length x) (x ++ y) c (ap decode (take-append_seam x y) ∙ e)
 
-rest_longer : (x y : List ℕ) (c : Character) → decode x ≡ some c → drop c.size (x ++ y) ≡ drop c.size x ++ y
+rest_longer : (x y : List ℕ) (c : Character) → decode x ≡ Some c → drop c.size (x ++ y) ≡ drop c.size x ++ y
 rest_longer x y c e = drop-append-le c.size x y (omega (arith, char_size x c e))
 
 whole_append : (x : List ℕ) → Utf8 x → (y : List ℕ) → Utf8 y → Utf8 (x ++ y)

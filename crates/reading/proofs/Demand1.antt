@@ -2,7 +2,7 @@
 use mathlib.Core.Path.{◌≡◌, sym, ap, ◌∙◌, subst}
 use mathlib.Core.Bool.{◌&&◌}
 use mathlib.Core.List.{List, [], ◌∷◌}
-use mathlib.Core.Option.{Option, none, some}
+use Rattle.std.specs.Prelude.{Option, None, Some}
 use Prim.Native.Nat.{ℕ, ◌≤◌}
 use native.Mathlib.Omega.{arith}
 use lib.Dec.{leb}
@@ -23,22 +23,22 @@ use Rattle.reading.proofs.Runs.{run_bounded, outcome_is}
 -- ── Refused ──
 abbrev Numbered : List (Option Refusal) → Type 0
 Numbered [] = Unit {0}
-Numbered (t ∷ ts) = ((r : Refusal) → t ≡ some r → (4 ≤ r.number) × (r.number ≤ 9)) × Numbered ts
+Numbered (t ∷ ts) = ((r : Refusal) → t ≡ Some r → (4 ≤ r.number) × (r.number ≤ 9)) × Numbered ts
 
-first_numbered : (ts : List (Option Refusal)) → Numbered ts → (r : Refusal) → first_of ts ≡ some r → (4 ≤ r.number) × (r.number ≤ 9)
+first_numbered : (ts : List (Option Refusal)) → Numbered ts → (r : Refusal) → first_of ts ≡ Some r → (4 ≤ r.number) × (r.number ≤ 9)
 first_numbered [] h r e = let z : ◌≡◌ {A = ℕ} 0 1 = cc in absurd (omega arith)
-first_numbered (none ∷ ts) h r e = first_numbered ts h.1 r e
-first_numbered (some q ∷ ts) h r e = h.0 r e
+first_numbered (None ∷ ts) h r e = first_numbered ts h.1 r e
+first_numbered (Some q ∷ ts) h r e = h.0 r e
 
-refuse_numbered : (n : ℕ) (o : Option ℕ) → 4 ≤ n → n ≤ 9 → (r : Refusal) → refuse n o ≡ some r → (4 ≤ r.number) × (r.number ≤ 9)
-refuse_numbered n none l h r e = let z : ◌≡◌ {A = ℕ} 0 1 = cc in absurd (omega arith)
-refuse_numbered n (some p) l h r e = let q : n ≡ r.number = cc in (omega arith, omega arith)
+refuse_numbered : (n : ℕ) (o : Option ℕ) → 4 ≤ n → n ≤ 9 → (r : Refusal) → refuse n o ≡ Some r → (4 ≤ r.number) × (r.number ≤ 9)
+refuse_numbered n None l h r e = let z : ◌≡◌ {A = ℕ} 0 1 = cc in absurd (omega arith)
+refuse_numbered n (Some p) l h r e = let q : n ≡ r.number = cc in (omega arith, omega arith)
 
 -- The tests 4 to 9 refuse by their numbers, whatever they find.
 numbered : (a b c d e f : Option ℕ) → Numbered (refuse 4 a ∷ refuse 5 b ∷ refuse 6 c ∷ refuse 7 d ∷ refuse 8 e ∷ refuse 9 f ∷ [])
 numbered a b c d e f = (refuse_numbered 4 a (omega arith) (omega arith), (refuse_numbered 5 b (omega arith) (omega arith), (refuse_numbered 6 c (omega arith) (omega arith), (refuse_numbered 7 d (omega arith) (omega arith), (refuse_numbered 8 e (omega arith) (omega arith), (refuse_numbered 9 f (omega arith) (omega arith), tt))))))
 
-refusal_numbered : (i : Input) (r : Refusal) → refusal i ≡ some r → (4 ≤ r.number) × (r.number ≤ 9)
+refusal_numbered : (i : Input) (r : Refusal) → refusal i ≡ Some r → (4 ≤ r.number) × (r.number ≤ 9)
 unfolding refusal
 refusal_numbered i = first_numbered (tests i) (numbered (unless (good_text i.literals)) (misfit i.nodes i.literals) (still_repeat i.nodes) (unless (good_text i.text)) (unless (within 1 1024 i.depth_limit)) (unless (leb 515 (length i.report) && leb 4864 i.scratch)))
 
@@ -50,25 +50,25 @@ limit_ended LimitKind.Stack f = without 12 (omega arith) (omega arith)
 ended : (r : Ending State) → Ended (answer r).number
 ended (Ok s) = go s.tracker.cause
   where
-    go : (c : Option LimitKind) → Ended (elim c as (λ _. Answer) [ some k ↦ of_limit k s.attempts.furthest | none ↦ of_tokens (tokens s.siblings) ]).number
-    go none = with_tokens
-    go (some k) = limit_ended k s.attempts.furthest
+    go : (c : Option LimitKind) → Ended (elim c as (λ _. Answer) [ Some k ↦ of_limit k s.attempts.furthest | None ↦ of_tokens (tokens s.siblings) ]).number
+    go None = with_tokens
+    go (Some k) = limit_ended k s.attempts.furthest
 ended (Err s) = go s.tracker.cause
   where
-    go : (c : Option LimitKind) → Ended (elim c as (λ _. Answer) [ some k ↦ of_limit k s.attempts.furthest | none ↦ of_failure s.attempts.furthest (ascending s.attempts.positive) (ascending s.attempts.negative) ]).number
-    go none = without 10 (omega arith) (omega arith)
-    go (some k) = limit_ended k s.attempts.furthest
+    go : (c : Option LimitKind) → Ended (elim c as (λ _. Answer) [ Some k ↦ of_limit k s.attempts.furthest | None ↦ of_failure s.attempts.furthest (ascending s.attempts.positive) (ascending s.attempts.negative) ]).number
+    go None = without 10 (omega arith) (omega arith)
+    go (Some k) = limit_ended k s.attempts.furthest
 ended (Stop (Cause.EmptyStack l)) = without 13 (omega arith) (omega arith)
 ended (Stop (Cause.TokensFull l)) = without 14 (omega arith) (omega arith)
 ended (Stop (Cause.StackFull l)) = without 15 (omega arith) (omega arith)
 ended (Stop (Cause.AttemptsFull l)) = without 16 (omega arith) (omega arith)
 
 module _ (i : Input) (before after : List ℕ) where
-  refused_is : (r : Refusal) → refusal i ≡ some r → outcome i ≡ refused i r
+  refused_is : (r : Refusal) → refusal i ≡ Some r → outcome i ≡ refused i r
   unfolding outcome
-  refused_is r e = ap (λ (o : Option Refusal). elim o as (λ _. Outcome) [ some x ↦ refused i x | none ↦ started i (answer (reading i)) ]) e
+  refused_is r e = ap (λ (o : Option Refusal). elim o as (λ _. Outcome) [ Some x ↦ refused i x | None ↦ started i (answer (reading i)) ]) e
 
-  as_refused : (r : Refusal) → refusal i ≡ some r → after ≡ before → Refused i r (outcome i) before after
+  as_refused : (r : Refusal) → refusal i ≡ Some r → after ≡ before → Refused i r (outcome i) before after
   as_refused r e left = record {
     from = (refusal_numbered i r e).0;
     to = (refusal_numbered i r e).1;
@@ -80,7 +80,7 @@ module _ (i : Input) (before after : List ℕ) where
     scratch = left;
   }
 
-  of_outcome : ((r : Refusal) → refusal i ≡ some r → after ≡ before) → Demand1 i (outcome i) before after
+  of_outcome : ((r : Refusal) → refusal i ≡ Some r → after ≡ before) → Demand1 i (outcome i) before after
   of_outcome left = record {
     refused = λ r e. as_refused r e (left r e);
     accepted = λ e. subst (λ (o : Outcome). Ended o.number) (sym (outcome_is i e)) (ended (reading i));

@@ -3,7 +3,7 @@
 use mathlib.Core.Path.{◌≡◌, sym, ap, ◌∙◌, subst}
 use mathlib.Core.List.{List, ◌++◌, append_cancel_right}
 use mathlib.Core.Logic.{◌↔◌, inl, inr}
-use mathlib.Core.Option.{Option, none, some}
+use Rattle.std.specs.Prelude.{Option, None, Some}
 use Prim.Native.Nat.{ℕ, ◌≤◌}
 use native.Mathlib.Omega.{arith}
 use lib.ListN.{drop}
@@ -27,17 +27,17 @@ no_stop (Stop (Cause.TokensFull l)) h = absurd (omega arith)
 no_stop (Stop (Cause.StackFull l)) h = absurd (omega arith)
 no_stop (Stop (Cause.AttemptsFull l)) h = absurd (omega arith)
 
-module _ (i : Input) (e : refusal i ≡ none) where
+module _ (i : Input) (e : refusal i ≡ None) where
   one_answer : (x y : Option (List ℕ)) → Relates i x → Relates i y → x ≡ y
   one_answer x y f g = ford_unique (rules_of (setting i)) (peg (root i.nodes i.literals)) (characters_of i.text) x f y g
 
   abbrev number : ℕ
   number = (answer (reading i)).number
 
-  not_both : {A : Type 0} {y : List ℕ} → Relates i (some y) → Relates i none → A
-  not_both {y = y} f g = let z : some y ≡ none = one_answer (some y) none f g in let w : ◌≡◌ {A = ℕ} 0 1 = cc in absurd (omega arith)
+  not_both : {A : Type 0} {y : List ℕ} → Relates i (Some y) → Relates i None → A
+  not_both {y = y} f g = let z : Some y ≡ None = one_answer (Some y) None f g in let w : ◌≡◌ {A = ℕ} 0 1 = cc in absurd (omega arith)
 
-  module _ (p : plain i.nodes ≡ none) where
+  module _ (p : plain i.nodes ≡ None) where
     zero_exactly : MatchOrFailure number → (number ≡ 0) ↔ ((prefix : List ℕ) × Consumes i prefix)
     zero_exactly h = (to, from h)
       where
@@ -66,7 +66,7 @@ module _ (i : Input) (e : refusal i ≡ none) where
 
         to : Consumes i prefix → prefix ≡ up_to i s
         to c =
-            let l : c.left ≡ after = cc (one_answer (some c.left) (some after) c.relates (left_over i e p q s r)) in
+            let l : c.left ≡ after = cc (one_answer (Some c.left) (Some after) c.relates (left_over i e p q s r)) in
             append_cancel_right prefix (up_to i s) after (ap (λ (y : List ℕ). prefix ++ y) (sym l) ∙ sym c.whole ∙ parts)
 
         from : prefix ≡ up_to i s → Consumes i prefix

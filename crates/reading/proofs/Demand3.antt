@@ -2,7 +2,7 @@
 use mathlib.Core.Path.{◌≡◌, refl, sym, ap, ap₂, ◌∙◌, subst}
 use mathlib.Core.List.{List}
 use mathlib.Core.Logic.{◌↔◌}
-use mathlib.Core.Option.{Option, none, some}
+use Rattle.std.specs.Prelude.{Option, None, Some}
 use Prim.Native.Nat.{ℕ, ◌*◌, ◌≤◌}
 use native.Mathlib.Omega.{arith}
 use lib.ListN.{length, take}
@@ -32,15 +32,15 @@ limit_number r LimitKind.Stack f = is_other 12 (omega arith)
 numbered : (r : Ending State) → Numbered r (answer r).number
 numbered (Ok s) = go s.tracker.cause refl
   where
-    go : (c : Option LimitKind) → s.tracker.cause ≡ c → Numbered (Ok s) (elim c as (λ _. Answer) [ some k ↦ of_limit k s.attempts.furthest | none ↦ of_tokens (tokens s.siblings) ]).number
-    go none e = is_0 s.siblings (parses s e)
-    go (some k) e = limit_number (Ok s) k s.attempts.furthest
+    go : (c : Option LimitKind) → s.tracker.cause ≡ c → Numbered (Ok s) (elim c as (λ _. Answer) [ Some k ↦ of_limit k s.attempts.furthest | None ↦ of_tokens (tokens s.siblings) ]).number
+    go None e = is_0 s.siblings (parses s e)
+    go (Some k) e = limit_number (Ok s) k s.attempts.furthest
 numbered (Err s) = go s.tracker.cause refl
   where
     go : (c : Option LimitKind) → s.tracker.cause ≡ c
-        → Numbered (Err s) (elim c as (λ _. Answer) [ some k ↦ of_limit k s.attempts.furthest | none ↦ of_failure s.attempts.furthest (ascending s.attempts.positive) (ascending s.attempts.negative) ]).number
-    go none e = is_10 s.attempts (fails s e)
-    go (some k) e = limit_number (Err s) k s.attempts.furthest
+        → Numbered (Err s) (elim c as (λ _. Answer) [ Some k ↦ of_limit k s.attempts.furthest | None ↦ of_failure s.attempts.furthest (ascending s.attempts.positive) (ascending s.attempts.negative) ]).number
+    go None e = is_10 s.attempts (fails s e)
+    go (Some k) e = limit_number (Err s) k s.attempts.furthest
 numbered (Stop (Cause.EmptyStack l)) = is_other 13 (omega arith)
 numbered (Stop (Cause.TokensFull l)) = is_other 14 (omega arith)
 numbered (Stop (Cause.StackFull l)) = is_other 15 (omega arith)
@@ -53,7 +53,7 @@ answer_failed : (r : Ending State) (a : Attempts) → Fails r a → answer r ≡
 answer_failed r a (fails s e) = rw e
 
 -- ── One started run ──
-module _ (i : Input) (e : refusal i ≡ none) where
+module _ (i : Input) (e : refusal i ≡ None) where
   -- "Each gives 0 exactly when document 01's reading, stops included, comes to 0, and 10 exactly when it comes to 10"
   pub zero_exactly : ((outcome i).number ≡ 0) ↔ ((f : Forest) × Parses (reading i) f)
   zero_exactly = (to, from)
@@ -107,7 +107,7 @@ module _ (i : Input) (e : refusal i ≡ none) where
   each = record { zero_exactly = zero_exactly; ten_exactly = ten_exactly; tokens_laid = tokens_laid; count_laid = count_laid; report_laid = report_laid }
 
 -- ── Any two started runs ──
-module _ (i j : Input) (e : refusal i ≡ none) (d : refusal j ≡ none) where
+module _ (i j : Input) (e : refusal i ≡ None) (d : refusal j ≡ None) where
   -- "If both parsed, their token lists are equal exactly when that reading gives both the same forest"
   pub same_tokens : (f h : Forest) → Parses (reading i) f → Parses (reading j) h → (token_list (outcome i) ≡ token_list (outcome j)) ↔ (f ≡ h)
   same_tokens f h p q =
@@ -115,7 +115,7 @@ module _ (i j : Input) (e : refusal i ≡ none) (d : refusal j ≡ none) where
       (subst (λ (x : List ℕ). (take (length (tokens f) * 5) (filled (length i.tokens) (numbers (tokens f))) ≡ x) ↔ (f ≡ h)) (sym (list_is j d h q))
       (tokens_area_exact (length i.tokens) (length j.tokens) f h))
     where
-      list_is : (i : Input) (e : refusal i ≡ none) (f : Forest) → Parses (reading i) f → token_list (outcome i) ≡ take (length (tokens f) * 5) (filled (length i.tokens) (numbers (tokens f)))
+      list_is : (i : Input) (e : refusal i ≡ None) (f : Forest) → Parses (reading i) f → token_list (outcome i) ≡ take (length (tokens f) * 5) (filled (length i.tokens) (numbers (tokens f)))
       list_is i e f p = ap₂ (λ (n : ℕ) (x : List ℕ). take (n * 5) x) (count_laid i e f p) (tokens_laid i e f p)
 
   -- "If both failed to match, their error reports are equal exactly when that reading gives both the same furthest position, the same

@@ -6,7 +6,7 @@ use mathlib.Core.Path.{◌≡◌, refl, sym, ap, ◌∙◌, subst}
 use mathlib.Core.Bool.{Bool, true, false, ◌&&◌, ◌||◌, not}
 use mathlib.Core.Logic.{◌⊎◌, inl, inr, ◌≢◌}
 use mathlib.Core.List.{List, [], ◌∷◌, ◌++◌, reverse, reverse_aux}
-use mathlib.Core.Option.{Option, none, some}
+use Rattle.std.specs.Prelude.{Option, None, Some}
 use Prim.Native.Nat.{ℕ, zero, suc, ◌-◌, ◌≤◌, ◌<◌, min}
 use native.Mathlib.Omega.{arith}
 use lib.IntN.{ℤ}
@@ -443,14 +443,14 @@ module _ (g : Setting) where
       → KeepsFrom g true m (Pest.stack_match_pop g.text true line c q m)
   match_pop_keeps line [] m e f q i d = keeps_ok (Pest.set_position q m) (record { fit = moved_fit m q f d; on = i; look = refl; atom = refl; level = refl; grown = omega arith }) not-true
   match_pop_keeps line (x ∷ rest) m e f q i d =
-      popping_keeps line x rest m e f (λ n. elim (Pest.match_string g.text (Pest.as_str g.text x) q) [ none ↦ Err n | some r ↦ Pest.stack_match_pop g.text true line rest r n ])
+      popping_keeps line x rest m e f (λ n. elim (Pest.match_string g.text (Pest.as_str g.text x) q) [ None ↦ Err n | Some r ↦ Pest.stack_match_pop g.text true line rest r n ])
       (λ w. go w _ (entry_lands x (subst (Entries g.text) e f.entries).0 q d) (match_pop_keeps line rest n (cache_of_pop x rest m.stack) w))
     where
       n : ParserState
       n = Pest.set_stack (Pest.pop x rest m.stack) m
 
       go : Fit g n → (y : Option ℕ) → Lands g.text q y → ((r : ℕ) → n.position ≤ r → Edge g.text r → KeepsFrom g true n (Pest.stack_match_pop g.text true line rest r n))
-          → KeepsFrom g true n (elim y [ none ↦ Err n | some r ↦ Pest.stack_match_pop g.text true line rest r n ])
+          → KeepsFrom g true n (elim y [ None ↦ Err n | Some r ↦ Pest.stack_match_pop g.text true line rest r n ])
       go w y lands_not ih = keeps_err n (stay n w)
       go w y (lands r k e) ih = ih r (omega arith) e
 
@@ -463,7 +463,7 @@ module _ (g : Setting) where
       farther q h x (lands r k d) = lands r (omega arith) d
 
       go : (x : Option ℕ) → Lands g.text p x → ((q : ℕ) → Edge g.text q → Lands g.text q (Pest.all_match g.text vs q))
-          → Lands g.text p (elim x [ none ↦ none | some q ↦ Pest.all_match g.text vs q ])
+          → Lands g.text p (elim x [ None ↦ None | Some q ↦ Pest.all_match g.text vs q ])
       go x lands_not ih = lands_not
       go x (lands q k d) ih = farther q k _ (ih q d)
 
@@ -478,20 +478,20 @@ module _ (g : Setting) where
       third a z false = landed_keeps m f _ (all_land (Pest.slice a z d m.stack.cache) (slice_entries g.text a z d m.stack.cache f.entries) m.position f.edge)
 
       second : (a : ℕ) (y : Option ℕ)
-          → KeepsFrom g true m (elim y [ none ↦ Err m | some z ↦ elim (leb z a) [ true ↦ Ok m | false ↦ Pest.moved (Pest.all_match g.text (Pest.slice a z d m.stack.cache) m.position) m ] ])
-      second a none = unmoved
-      second a (some z) = third a z (leb z a)
+          → KeepsFrom g true m (elim y [ None ↦ Err m | Some z ↦ elim (leb z a) [ true ↦ Ok m | false ↦ Pest.moved (Pest.all_match g.text (Pest.slice a z d m.stack.cache) m.position) m ] ])
+      second a None = unmoved
+      second a (Some z) = third a z (leb z a)
 
       first : (x : Option ℕ) → KeepsFrom g true m (elim x [
-        | none ↦ Err m
-        | some a ↦
+        | None ↦ Err m
+        | Some a ↦
             elim (Pest.normalize_end j (length m.stack.cache)) [
-              | none ↦ Err m
-              | some z ↦ elim (leb z a) [ true ↦ Ok m | false ↦ Pest.moved (Pest.all_match g.text (Pest.slice a z d m.stack.cache) m.position) m ]
+              | None ↦ Err m
+              | Some z ↦ elim (leb z a) [ true ↦ Ok m | false ↦ Pest.moved (Pest.all_match g.text (Pest.slice a z d m.stack.cache) m.position) m ]
             ]
       ])
-      first none = unmoved
-      first (some a) = second a (Pest.normalize_end j (length m.stack.cache))
+      first None = unmoved
+      first (Some a) = second a (Pest.normalize_end j (length m.stack.cache))
 
   -- ── Kind 19 ──
   pub length_tag : (u : ℕ) (q : List QueueableToken) → length (Pest.tag_last u q) ≡ length q
@@ -730,7 +730,7 @@ module _ (g : Setting) (set : ℕ → Bool) (w : Tested g set) where
   refused_keeps e u y m x = keeps_err (no_room m) (stay g (no_room m) x)
     where
       no_room : ParserState → ParserState
-      no_room m = Pest.set_call_tracker (record { current_call_limit = m.call_tracker.current_call_limit; limit_reached = some LimitKind.Stack }) m
+      no_room m = Pest.set_call_tracker (record { current_call_limit = m.call_tracker.current_call_limit; limit_reached = Some LimitKind.Stack }) m
 
   -- The invariant, at every depth and for every tree.
   pub eval_keeps : (depth : ℕ) (e : Exp) → Literals e → Steady set e → Keeping g (still set e) (eval g true depth e)

@@ -4,7 +4,7 @@ use Rattle.std.specs.Prelude.{if◌then◌else◌}
 use mathlib.Core.Path.{◌≡◌, refl, sym, ap, ◌∙◌, subst}
 use mathlib.Core.Bool.{Bool, true, false, ◌&&◌, cond}
 use mathlib.Core.List.{List, [], ◌∷◌}
-use mathlib.Core.Option.{Option, none, some}
+use Rattle.std.specs.Prelude.{Option, None, Some}
 use Prim.Native.Nat.{ℕ, zero, suc, ◌+◌, ◌≤◌, ◌<◌}
 use native.Mathlib.Omega.{arith}
 use native.Mathlib.Nat.{add-zero}
@@ -13,7 +13,8 @@ use lib.ListN.{length, take, drop, length-drop}
 use lib.Seq.{drop-drop}
 use lib.Dec.{eqb, leb}
 use borrow.Author.Tests.{leb-true, leb-false, le-leb, lt-leb, lt-ltb, le-ltb}
-use Rattle.matching.specs.Utf8.{Utf8, Character, decode}
+use Rattle.matching.specs.Utf8.{Utf8, decode}
+use Rattle.matching.specs.declared.utf8.Character.{Character}
 use Rattle.matching.specs.Position as Position
 use Rattle.matching.specs.Position.{starts_by, same_folded, match_by, match_char_by, past}
 use Rattle.matching.proofs.Forward.{starts_length, Found, found, char_forward}
@@ -33,7 +34,7 @@ module _ (text : List ℕ) where
   unfolding match_by
   string_same l p = go (leb (p + length l) (length text)) refl (starts_by eqb l (drop p text)) refl
     where
-      no_match : (b : Bool) → cond (b && false) (some (p + length l)) none ≡ none
+      no_match : (b : Bool) → cond (b && false) (Some (p + length l)) None ≡ None
       no_match true = refl
       no_match false = refl
 
@@ -57,7 +58,7 @@ module _ (text : List ℕ) where
       x : List ℕ
       x = drop p text
 
-      none_of : (a : Bool) → (if a && false then some (p + length l) else none) ≡ none
+      none_of : (a : Bool) → (if a && false then Some (p + length l) else None) ≡ None
       none_of true = refl
       none_of false = refl
 
@@ -72,7 +73,7 @@ module _ (text : List ℕ) where
           rw (le-leb p (length text) k, f, part f, same_starts same_folded l x n, f)
       go false f = rw (le-leb p (length text) k, f) (sym (fails (leb (length l) (length x)) refl))
         where
-          fails : (c : Bool) → leb (length l) (length x) ≡ c → Pest.match_insensitive text l p ≡ none
+          fails : (c : Bool) → leb (length l) (length x) ≡ c → Pest.match_insensitive text l p ≡ None
           fails true e = rw (same_starts same_folded l x (leb-true (length l) (length x) e), f) (none_of (Pest.has_part x (length l)))
           fails false e = rw e
 
@@ -87,10 +88,10 @@ module _ (text : List ℕ) where
   skip_from (suc n) p len h = go (decode (drop (p + len) text)) (char_forward text (λ v. true) (p + len)) (λ c. skip_from n p (len + c))
     where
       go : (o : Option Character) → Found (length text) (p + len) 1 (past (λ v. true) (p + len) o) → ((c : ℕ) → p + (len + c) ≤ length text → Position.skip text n (p + (len + c)) ≡ Pest.advance p (Pest.skipped n (drop (p + (len + c)) text) (len + c)))
-          → elim (past (λ v. true) (p + len) o) as (λ y. Option ℕ) [ none ↦ none | some q ↦ Position.skip text n q ]
-          ≡ Pest.advance p (elim o as (λ y. Option ℕ) [ none ↦ none | some c ↦ Pest.skipped n (drop c.size (drop (p + len) text)) (len + c.size) ])
-      go none f ih = refl
-      go (some c) (found q f) ih =
+          → elim (past (λ v. true) (p + len) o) as (λ y. Option ℕ) [ None ↦ None | Some q ↦ Position.skip text n q ]
+          ≡ Pest.advance p (elim o as (λ y. Option ℕ) [ None ↦ None | Some c ↦ Pest.skipped n (drop c.size (drop (p + len) text)) (len + c.size) ])
+      go None f ih = refl
+      go (Some c) (found q f) ih =
           let e : p + (len + c.size) ≡ p + len + c.size = omega arith in
           let h : p + (len + c.size) ≤ length text = omega (arith, f.fits) in
           ap (Position.skip text n) (sym e) ∙ ih c.size h ∙ ap (λ (x : List ℕ). Pest.advance p (Pest.skipped n x (len + c.size))) (ap (λ (m : ℕ). drop m text) e ∙ sym (drop-drop c.size (p + len) text))
@@ -102,13 +103,13 @@ module _ (text : List ℕ) where
   pub entries_same : (vs : List Span) (p : ℕ) → Reading.after_entries text vs p ≡ Pest.all_match text vs p
   entries_same [] p = refl
   entries_same (v ∷ vs) p =
-      subst (λ (y : Option ℕ). ◌≡◌ {A = Option ℕ} (Reading.after_entries text (v ∷ vs) p) (elim y [ none ↦ none | some q ↦ Pest.all_match text vs q ]))
+      subst (λ (y : Option ℕ). ◌≡◌ {A = Option ℕ} (Reading.after_entries text (v ∷ vs) p) (elim y [ None ↦ None | Some q ↦ Pest.all_match text vs q ]))
       (string_same (Pest.as_str text v) p) (go (Reading.after_entry text v p) (entries_same vs))
     where
       go : (x : Option ℕ) → ((q : ℕ) → Reading.after_entries text vs q ≡ Pest.all_match text vs q)
-          → ◌≡◌ {A = Option ℕ} (elim x [ none ↦ none | some q ↦ Reading.after_entries text vs q ]) (elim x [ none ↦ none | some q ↦ Pest.all_match text vs q ])
-      go none ih = refl
-      go (some q) ih = ih q
+          → ◌≡◌ {A = Option ℕ} (elim x [ None ↦ None | Some q ↦ Reading.after_entries text vs q ]) (elim x [ None ↦ None | Some q ↦ Pest.all_match text vs q ])
+      go None ih = refl
+      go (Some q) ih = ih q
 
 -- ── normalize_index ──
 pub index_same : (i : ℤ) (h : ℕ) → Reading.index_in h i ≡ Pest.normalize_index i h
@@ -124,8 +125,8 @@ index_same (negsuc i) h = go (leb (suc i) h) refl
     go false e = rw (e, lt-ltb h (suc i) (leb-false (suc i) h e))
 
 pub end_same : (j : Option ℤ) (h : ℕ) → Reading.end_in h j ≡ Pest.normalize_end j h
-end_same none h = refl
-end_same (some j) h = index_same j h
+end_same None h = refl
+end_same (Some j) h = index_same j h
 
 pub slice_same : (i j : ℕ) (d : Bool) (v : List Span) → Reading.entries i j d v ≡ Pest.slice i j d v
 slice_same i j true v = refl

@@ -4,7 +4,7 @@ use Rattle.std.specs.Prelude.{if◌then◌else◌}
 use mathlib.Core.Path.{◌≡◌, refl, sym, ap, ◌∙◌, subst}
 use mathlib.Core.Bool.{Bool, true, false, ◌&&◌, ◌||◌, not, cond}
 use mathlib.Core.List.{List, [], ◌∷◌, ◌++◌}
-use mathlib.Core.Option.{Option, none, some}
+use Rattle.std.specs.Prelude.{Option, None, Some}
 use mathlib.Core.Logic.{◌≢◌}
 use Prim.Native.Nat.{ℕ, zero, suc, ◌+◌, ◌-◌, ◌≤◌, ◌<◌}
 use native.Mathlib.Omega.{arith}
@@ -48,14 +48,14 @@ use Rattle.reading.proofs.Agree.{initial_fit, run_sim}
 not_so : {A : Type 0} → false ≡ true → A
 not_so e = let z : ◌≡◌ {A = ℕ} 0 1 = cc in absurd (omega arith)
 
-cause_set : {A : Type 0} (c : Option LimitKind) → is_set c ≡ true → c ≡ none → A
-cause_set none e f = not_so e
-cause_set (some k) e f = let z : ◌≡◌ {A = ℕ} 0 1 = cc in absurd (omega arith)
+cause_set : {A : Type 0} (c : Option LimitKind) → is_set c ≡ true → c ≡ None → A
+cause_set None e f = not_so e
+cause_set (Some k) e f = let z : ◌≡◌ {A = ℕ} 0 1 = cc in absurd (omega arith)
 
 -- ── Terminals, over the characters of two texts ──
 module _ (rules : ℕ → Peg) where
   abbrev After : Bool → ℕ → List ℕ → Option (List ℕ)
-  After b n x = if b then some (characters_of (drop n x)) else none
+  After b n x = if b then Some (characters_of (drop n x)) else None
 
   -- The classes of a text's characters, against a text: what matching by bytes says.
   each_ford : (same : ℕ → ℕ → Bool) → Ascii same → (l : List ℕ) → Utf8 l → (x : List ℕ) → Utf8 x
@@ -66,7 +66,7 @@ module _ (rules : ℕ → Peg) where
       es : List ℕ
       es = characters_of (drop c.size l')
 
-      no_bytes : (l : List ℕ) → decode l ≡ some c → starts_by same l [] ≡ false
+      no_bytes : (l : List ℕ) → decode l ≡ Some c → starts_by same l [] ≡ false
       no_bytes [] e = let z : ◌≡◌ {A = ℕ} 0 1 = cc decode_nil in absurd (omega arith)
       no_bytes (a ∷ l) e = refl
 
@@ -90,14 +90,14 @@ module _ (text : List ℕ) (rules : ℕ → Peg) where
   at p = characters_of (drop p text)
 
   abbrev left : Option ℕ → Option (List ℕ)
-  left none = none
-  left (some q) = some (at q)
+  left None = None
+  left (Some q) = Some (at q)
 
   string_ford : (same : ℕ → ℕ → Bool) → Ascii same → (l : List ℕ) → Utf8 l → (p : ℕ) → Edge text p → Ford rules (each_of same (characters l)) (at p) (left (match_by text same l p))
   unfolding match_by
   string_ford same h l u p e = rw (all_characters l u, le-leb p (length text) e.inside) (go (starts_by same l (drop p text)) (each_ford rules same h l u (drop p text) e.whole))
     where
-      go : (b : Bool) → Ford rules (each same (characters_of l)) (at p) (After rules b (length l) (drop p text)) → Ford rules (each same (characters_of l)) (at p) (left (cond b (some (p + length l)) none))
+      go : (b : Bool) → Ford rules (each same (characters_of l)) (at p) (After rules b (length l) (drop p text)) → Ford rules (each same (characters_of l)) (at p) (left (cond b (Some (p + length l)) None))
       go true f = rw (← drop-drop (length l) p text) f
       go false f = f
 
@@ -109,7 +109,7 @@ module _ (text : List ℕ) (rules : ℕ → Peg) where
       go (no_character n d q) = rw (d, q) (Ford.f_terminal_end good)
       go (a_character c d u q) = rw (d, q) (pick (good c.value) refl)
         where
-          pick : (b : Bool) → good c.value ≡ b → Ford rules (Ford.class good) (c.value ∷ characters_of (drop c.size (drop p text))) (left (cond b (some (p + c.size)) none))
+          pick : (b : Bool) → good c.value ≡ b → Ford rules (Ford.class good) (c.value ∷ characters_of (drop c.size (drop p text))) (left (cond b (Some (p + c.size)) None))
           pick true k = rw (← drop-drop c.size p text) (Ford.f_terminal good c.value (characters_of (drop c.size (drop p text))) k)
           pick false k = Ford.f_terminal_fail good c.value (characters_of (drop c.size (drop p text))) k
 
@@ -122,10 +122,10 @@ module _ (text : List ℕ) (rules : ℕ → Peg) where
       go o lands_not f ih = Ford.f_sequence_fail _ _ (at p) f
       go o (lands q k d) f ih = Ford.f_sequence _ _ (at p) (at q) _ f (ih q d)
 
-  end_ford : (p : ℕ) → Edge text p → Ford rules (Ford.not any) (at p) (if Pest.at_end text p then some (at p) else none)
+  end_ford : (p : ℕ) → Edge text p → Ford rules (Ford.not any) (at p) (if Pest.at_end text p then Some (at p) else None)
   end_ford p e = go (begins (drop p text) e.whole) (Pest.at_end text p) refl
     where
-      go : Begins (drop p text) → (b : Bool) → eqb p (length text) ≡ b → Ford rules (Ford.not any) (at p) (if b then some (at p) else none)
+      go : Begins (drop p text) → (b : Bool) → eqb p (length text) ≡ b → Ford rules (Ford.not any) (at p) (if b then Some (at p) else None)
       go (no_character n d q) true k = Ford.f_not any (at p) (rw q (Ford.f_terminal_end (λ v. true)))
       go (no_character n d q) false k =
           let ne : p ≢ length text = eqb-false p (length text) k in
@@ -147,8 +147,8 @@ module _ (g : Setting) where
   -- Begun at p with the cause c: an ending without a cause began without one, and is what Ford's relation gives. Where `w`, a failure
   -- leaves the position.
   pub data Means (e : Peg) (w : Bool) (p : ℕ) (c : Option LimitKind) : Ending ParserState → Type 0 where
-    means_ok : (n : ParserState) → (cause n ≡ none → (c ≡ none) × Ford (rules_of g) e (from p) (some (from n.position))) → Means e w p c (Ok n)
-    means_err : (n : ParserState) → (cause n ≡ none → (c ≡ none) × Ford (rules_of g) e (from p) none × (w ≡ true → n.position ≡ p)) → Means e w p c (Err n)
+    means_ok : (n : ParserState) → (cause n ≡ None → (c ≡ None) × Ford (rules_of g) e (from p) (Some (from n.position))) → Means e w p c (Ok n)
+    means_err : (n : ParserState) → (cause n ≡ None → (c ≡ None) × Ford (rules_of g) e (from p) None × (w ≡ true → n.position ≡ p)) → Means e w p c (Err n)
     means_stop : (x : Cause) → Means e w p c (Stop x)
 
   abbrev pub MeansFrom : Peg → Bool → ParserState → Ending ParserState → Type 0
@@ -162,10 +162,10 @@ module _ (g : Setting) where
       → Recognises (Ford.◌then◌ a b) false (λ m. on_ok (f m) (λ n. h n))
   and_means a b v w x f h hf hh hk m y = go (f m) (hf m y) (hk m y)
     where
-      onward : (n : ParserState) → (cause n ≡ none → (cause m ≡ none) × Ford (rules_of g) a (from m.position) (some (from n.position))) → (r : Ending ParserState) → MeansFrom b w n r
+      onward : (n : ParserState) → (cause n ≡ None → (cause m ≡ None) × Ford (rules_of g) a (from m.position) (Some (from n.position))) → (r : Ending ParserState) → MeansFrom b w n r
           → MeansFrom (Ford.◌then◌ a b) false m r
-      onward n k r (means_ok t j) = means_ok t (λ c. let q : cause n ≡ none = (j c).0 in ((k q).0, Ford.f_sequence a b _ _ _ (k q).1 (j c).1))
-      onward n k r (means_err t j) = means_err t (λ c. let q : cause n ≡ none = (j c).0 in ((k q).0, Ford.f_sequence a b _ _ none (k q).1 (j c).1, λ (e : false ≡ true). not_so e))
+      onward n k r (means_ok t j) = means_ok t (λ c. let q : cause n ≡ None = (j c).0 in ((k q).0, Ford.f_sequence a b _ _ _ (k q).1 (j c).1))
+      onward n k r (means_err t j) = means_err t (λ c. let q : cause n ≡ None = (j c).0 in ((k q).0, Ford.f_sequence a b _ _ None (k q).1 (j c).1, λ (e : false ≡ true). not_so e))
       onward n k r (means_stop c) = means_stop c
 
       go : (r : Ending ParserState) → MeansFrom a v m r → KeepsFrom g x m r → MeansFrom (Ford.◌then◌ a b) false m (on_ok r (λ n. h n))
@@ -177,14 +177,14 @@ module _ (g : Setting) where
       → Recognises (Ford.◌or◌ a b) true (λ m. on_err (f m) (λ n. h n))
   or_means a b x f h hf hh hk m y = go (f m) (hf m y) (hk m y)
     where
-      onward : (n : ParserState) → (cause n ≡ none → (cause m ≡ none) × Ford (rules_of g) a (from m.position) none × (true ≡ true → n.position ≡ m.position)) → (r : Ending ParserState) → MeansFrom b true n r
+      onward : (n : ParserState) → (cause n ≡ None → (cause m ≡ None) × Ford (rules_of g) a (from m.position) None × (true ≡ true → n.position ≡ m.position)) → (r : Ending ParserState) → MeansFrom b true n r
           → MeansFrom (Ford.◌or◌ a b) true m r
       onward n k r (means_ok t j) = means_ok t (λ c.
-          let q : cause n ≡ none = (j c).0 in
+          let q : cause n ≡ None = (j c).0 in
           ((k q).0, Ford.f_second a b _ _ (k q).1 (rw ((k q).2 refl) at (j c).1)))
       onward n k r (means_err t j) = means_err t (λ c.
-          let q : cause n ≡ none = (j c).0 in
-          ((k q).0, Ford.f_second a b _ none (k q).1 (rw ((k q).2 refl) at (j c).1), λ e. (j c).2 e ∙ (k q).2 refl))
+          let q : cause n ≡ None = (j c).0 in
+          ((k q).0, Ford.f_second a b _ None (k q).1 (rw ((k q).2 refl) at (j c).1), λ e. (j c).2 e ∙ (k q).2 refl))
       onward n k r (means_stop c) = means_stop c
 
       go : (r : Ending ParserState) → MeansFrom a true m r → KeepsFrom g x m r → MeansFrom (Ford.◌or◌ a b) true m (on_err r (λ n. h n))
@@ -198,13 +198,13 @@ module _ (g : Setting) where
   moved_means e m x y q f = go y (subst (λ (o : Option ℕ). Ford (rules_of g) e (from m.position) (left g.text (rules_of g) o)) q f)
     where
       go : (o : Option ℕ) → Ford (rules_of g) e (from m.position) (left g.text (rules_of g) o) → MeansFrom e true m (Pest.moved o m)
-      go none f = means_err m (λ c. (c, f, λ q. refl))
-      go (some q) f = means_ok (Pest.set_position q m) (λ c. (c, f))
+      go None f = means_err m (λ c. (c, f, λ q. refl))
+      go (Some q) f = means_ok (Pest.set_position q m) (λ c. (c, f))
 
   end_means : Recognises (Ford.not any) true (λ m. if Pest.at_end g.text m.position then Ok m else Err m)
   end_means m y = go (Pest.at_end g.text m.position) (end_ford g.text (rules_of g) m.position y.edge)
     where
-      go : (b : Bool) → Ford (rules_of g) (Ford.not any) (from m.position) (if b then some (from m.position) else none) → MeansFrom (Ford.not any) true m (if b then Ok m else Err m)
+      go : (b : Bool) → Ford (rules_of g) (Ford.not any) (from m.position) (if b then Some (from m.position) else None) → MeansFrom (Ford.not any) true m (if b then Ok m else Err m)
       go true f = means_ok m (λ c. (c, f))
       go false f = means_err m (λ c. (c, f, λ q. refl))
 
@@ -275,7 +275,7 @@ module _ (g : Setting) where
 
   -- ── Kinds 10 and 11 ──
   -- An Err is passed on only with a cause: there is nothing to show.
-  forgiven_means : {e : Peg} {w : Bool} {p : ℕ} {c : Option LimitKind} (n : ParserState) → (cause n ≡ none → (c ≡ none) × Ford (rules_of g) e (from p) (some (from n.position)))
+  forgiven_means : {e : Peg} {w : Bool} {p : ℕ} {c : Option LimitKind} (n : ParserState) → (cause n ≡ None → (c ≡ None) × Ford (rules_of g) e (from p) (Some (from n.position)))
       → Means e w p c (if Pest.limit_reached n then Err n else Ok n)
   forgiven_means {e} {w} {p} {c} n k = go (Pest.limit_reached n) refl
     where
@@ -297,10 +297,10 @@ module _ (g : Setting) where
   rounds_means e f h k zero m y l = absurd (omega arith)
   rounds_means e f h k (suc n) m y l = go (f m) (h m y) (k m y) (λ t. rounds_means e f h k n t)
     where
-      onward : (t : ParserState) → (cause t ≡ none → (cause m ≡ none) × Ford (rules_of g) e (from m.position) (some (from t.position))) → (r : Ending ParserState) → MeansFrom (Ford.star e) true t r
+      onward : (t : ParserState) → (cause t ≡ None → (cause m ≡ None) × Ford (rules_of g) e (from m.position) (Some (from t.position))) → (r : Ending ParserState) → MeansFrom (Ford.star e) true t r
           → MeansFrom (Ford.star e) true m r
-      onward t j r (means_ok u i) = means_ok u (λ c. let q : cause t ≡ none = (i c).0 in ((j q).0, Ford.f_more e _ _ _ (j q).1 (i c).1))
-      onward t j r (means_err u i) = means_err u (λ c. absurd (star_left (rules_of g) e (from t.position) none (i c).1 refl))
+      onward t j r (means_ok u i) = means_ok u (λ c. let q : cause t ≡ None = (i c).0 in ((j q).0, Ford.f_more e _ _ _ (j q).1 (i c).1))
+      onward t j r (means_err u i) = means_err u (λ c. absurd (star_left (rules_of g) e (from t.position) None (i c).1 refl))
       onward t j r (means_stop c) = means_stop c
 
       go : (r : Ending ParserState) → MeansFrom e true m r → KeepsFrom g false m r
@@ -330,13 +330,13 @@ module _ (g : Setting) where
       err_set : (n : ParserState) (b : Peg) → Pest.limit_reached n ≡ true → MeansFrom b true m (Err (back n))
       err_set n b q = means_err (back n) (λ c. cause_set (cause n) q c)
 
-      ok_case : (p : Bool) (n : ParserState) → (cause n ≡ none → (cause m ≡ none) × Ford (rules_of g) e (from m.position) (some (from n.position))) → (x : Bool) → Pest.limit_reached n ≡ x
+      ok_case : (p : Bool) (n : ParserState) → (cause n ≡ None → (cause m ≡ None) × Ford (rules_of g) e (from m.position) (Some (from n.position))) → (x : Bool) → Pest.limit_reached n ≡ x
           → MeansFrom (lookahead_of p e) true m (if x then Err (back n) else if p then Ok (back n) else Err (back n))
       ok_case p n k true q = err_set n (lookahead_of p e) q
       ok_case true n k false q = means_ok (back n) (λ c. ((k c).0, Ford.f_not _ _ (Ford.f_not_fail e _ _ (k c).1)))
       ok_case false n k false q = means_err (back n) (λ c. ((k c).0, Ford.f_not_fail e _ _ (k c).1, λ z. refl))
 
-      err_case : (p : Bool) (n : ParserState) → (cause n ≡ none → (cause m ≡ none) × Ford (rules_of g) e (from m.position) none × (w ≡ true → n.position ≡ m.position)) → (x : Bool) → Pest.limit_reached n ≡ x
+      err_case : (p : Bool) (n : ParserState) → (cause n ≡ None → (cause m ≡ None) × Ford (rules_of g) e (from m.position) None × (w ≡ true → n.position ≡ m.position)) → (x : Bool) → Pest.limit_reached n ≡ x
           → MeansFrom (lookahead_of p e) true m (if x then Err (back n) else if p then Err (back n) else Ok (back n))
       err_case p n k true q = err_set n (lookahead_of p e) q
       err_case true n k false q = means_err (back n) (λ c. ((k c).0, Ford.f_not_fail (Ford.not e) _ _ (Ford.f_not e _ (k c).1), λ z. refl))
@@ -414,7 +414,7 @@ module _ (g : Setting) where
       index : ℕ
       index = length m.queue
 
-      close : (t : ParserState) → (cause t ≡ none → (cause m ≡ none) × Ford (rules_of g) e (from m.position) (some (from t.position))) → MeansFrom e true m (Pest.close_rule g true line r index t)
+      close : (t : ParserState) → (cause t ≡ None → (cause m ≡ None) × Ford (rules_of g) e (from m.position) (Some (from t.position))) → MeansFrom e true m (Pest.close_rule g true line r index t)
       close t k = pick (Pest.produces t)
         where
           q : List QueueableToken
@@ -431,16 +431,16 @@ module _ (g : Setting) where
           pick false = means_ok t k
           pick true = room (leb g.capacity (length q))
 
-      cut : (t : ParserState) → (cause t ≡ none → (cause m ≡ none) × Ford (rules_of g) e (from m.position) none × (true ≡ true → t.position ≡ m.position)) → (b : Bool)
+      cut : (t : ParserState) → (cause t ≡ None → (cause m ≡ None) × Ford (rules_of g) e (from m.position) None × (true ≡ true → t.position ≡ m.position)) → (b : Bool)
           → MeansFrom e true m (Err (if b then Pest.set_queue (take index t.queue) t else t))
       cut t k true = means_err (Pest.set_queue (take index t.queue) t) k
       cut t k false = means_err t k
 
       ends : (prev : ℕ) (x : Ending ParserState) → MeansFrom e true m x → MeansFrom e true m (Pest.rule_end g true line r m.position index pi ni prev x)
       ends prev x (means_ok n k) = tracking_means (is_negative n.lookahead) line r m.position pi ni prev (λ t. Pest.close_rule g true line r index t) n
-          (λ t s. close t (λ c. let j : (cause m ≡ none) × Ford (rules_of g) e (from m.position) (some (from n.position)) = k (sym s.limit ∙ c) in (j.0, rw s.place j.1)))
+          (λ t s. close t (λ c. let j : (cause m ≡ None) × Ford (rules_of g) e (from m.position) (Some (from n.position)) = k (sym s.limit ∙ c) in (j.0, rw s.place j.1)))
       ends prev x (means_err n k) = tracking_means (not (is_negative n.lookahead)) line r m.position pi ni prev (λ t. Err (if Pest.produces t then Pest.set_queue (take index t.queue) t else t)) n
-          (λ t s. cut t (λ c. let j : (cause m ≡ none) × Ford (rules_of g) e (from m.position) none × (true ≡ true → n.position ≡ m.position) = k (sym s.limit ∙ c) in (j.0, j.1, λ z. s.place ∙ j.2 z)) (Pest.produces t))
+          (λ t s. cut t (λ c. let j : (cause m ≡ None) × Ford (rules_of g) e (from m.position) None × (true ≡ true → n.position ≡ m.position) = k (sym s.limit ∙ c) in (j.0, j.1, λ z. s.place ∙ j.2 z)) (Pest.produces t))
       ends prev x (means_stop c) = means_stop c
 
       s : ParserState
@@ -518,7 +518,7 @@ module _ (g : Setting) (set : ℕ → Bool) (w : Tested g set) (lines : ℕ → 
         nonterminal_means g l _ (counted (peg r.body) (λ n. Pest.rule g true r.line r.rule (d r.body) n) (rule_means g r.line r.rule (peg r.body) (d r.body) (body r.body (v.plain l c) (v.calls l c) (v.whole_body l c) (w.literals l) (w.steady l))) m x)
 
   refused_means : (e : Exp) → Plain e → Calls lines e → Literals e → Steady set e → RecognisesTree e (Pest.no_deeper g true e)
-  refused_means e p c u y m x = means_err _ (λ q. cause_set (some LimitKind.Stack) refl q)
+  refused_means e p c u y m x = means_err _ (λ q. cause_set (Some LimitKind.Stack) refl q)
 
   -- At every depth, for every plain tree.
   pub eval_means : (depth : ℕ) (e : Exp) → Plain e → Calls lines e → Literals e → Steady set e → RecognisesTree e (eval g true depth e)
@@ -528,13 +528,13 @@ module _ (g : Setting) (set : ℕ → Bool) (w : Tested g set) (lines : ℕ → 
 -- ── What a run gives ──
 -- A run that ends without a limit cause, and what is left of the text's characters; none where it failed.
 pub data Recognised (g : Setting) : Ending State → Option (List ℕ) → Type 0 where
-  matched : (s : State) → s.tracker.cause ≡ none → Recognised g (Ok s) (some (characters_of (drop s.position g.text)))
-  failed : (s : State) → s.tracker.cause ≡ none → Recognised g (Err s) none
+  matched : (s : State) → s.tracker.cause ≡ None → Recognised g (Ok s) (Some (characters_of (drop s.position g.text)))
+  failed : (s : State) → s.tracker.cause ≡ None → Recognised g (Err s) None
 
 -- The numbers 0 and 10 are given for such an ending only.
 data Numbered (g : Setting) (r : Ending State) : ℕ → Type 0 where
-  parsed_end : (y : List ℕ) → Recognised g r (some y) → Numbered g r 0
-  failed_end : Recognised g r none → Numbered g r 10
+  parsed_end : (y : List ℕ) → Recognised g r (Some y) → Numbered g r 0
+  failed_end : Recognised g r None → Numbered g r 10
   other_end : (n : ℕ) → 11 ≤ n → Numbered g r n
 
 numbered : (g : Setting) (r : Ending State) → Numbered g r (answer r).number
@@ -544,9 +544,9 @@ numbered g (Ok s) = go s.tracker.cause refl
     limit_end LimitKind.Call = other_end 11 (omega arith)
     limit_end LimitKind.Stack = other_end 12 (omega arith)
 
-    go : (c : Option LimitKind) → s.tracker.cause ≡ c → Numbered g (Ok s) (elim c as (λ x. Answer) [ some k ↦ of_limit k s.attempts.furthest | none ↦ of_tokens (tokens s.siblings) ]).number
-    go none e = parsed_end (characters_of (drop s.position g.text)) (matched s e)
-    go (some k) e = limit_end k
+    go : (c : Option LimitKind) → s.tracker.cause ≡ c → Numbered g (Ok s) (elim c as (λ x. Answer) [ Some k ↦ of_limit k s.attempts.furthest | None ↦ of_tokens (tokens s.siblings) ]).number
+    go None e = parsed_end (characters_of (drop s.position g.text)) (matched s e)
+    go (Some k) e = limit_end k
 numbered g (Err s) = go s.tracker.cause refl
   where
     limit_end : (k : LimitKind) → Numbered g (Err s) (of_limit k s.attempts.furthest).number
@@ -554,22 +554,22 @@ numbered g (Err s) = go s.tracker.cause refl
     limit_end LimitKind.Stack = other_end 12 (omega arith)
 
     go : (c : Option LimitKind) → s.tracker.cause ≡ c
-        → Numbered g (Err s) (elim c as (λ x. Answer) [ some k ↦ of_limit k s.attempts.furthest | none ↦ of_failure s.attempts.furthest (ascending s.attempts.positive) (ascending s.attempts.negative) ]).number
-    go none e = failed_end (failed s e)
-    go (some k) e = limit_end k
+        → Numbered g (Err s) (elim c as (λ x. Answer) [ Some k ↦ of_limit k s.attempts.furthest | None ↦ of_failure s.attempts.furthest (ascending s.attempts.positive) (ascending s.attempts.negative) ]).number
+    go None e = failed_end (failed s e)
+    go (Some k) e = limit_end k
 numbered g (Stop (Cause.EmptyStack l)) = other_end 13 (omega arith)
 numbered g (Stop (Cause.TokensFull l)) = other_end 14 (omega arith)
 numbered g (Stop (Cause.StackFull l)) = other_end 15 (omega arith)
 numbered g (Stop (Cause.AttemptsFull l)) = other_end 16 (omega arith)
 
 -- A match that gives 0 has no cause.
-pub no_cause : (s : State) → (answer (Ok s)).number ≡ 0 → s.tracker.cause ≡ none
+pub no_cause : (s : State) → (answer (Ok s)).number ≡ 0 → s.tracker.cause ≡ None
 no_cause s = go s.tracker.cause
   where
-    go : (c : Option LimitKind) → (elim c as (λ x. Answer) [ some k ↦ of_limit k s.attempts.furthest | none ↦ of_tokens (tokens s.siblings) ]).number ≡ 0 → c ≡ none
-    go none q = refl
-    go (some LimitKind.Call) q = absurd (omega arith)
-    go (some LimitKind.Stack) q = absurd (omega arith)
+    go : (c : Option LimitKind) → (elim c as (λ x. Answer) [ Some k ↦ of_limit k s.attempts.furthest | None ↦ of_tokens (tokens s.siblings) ]).number ≡ 0 → c ≡ None
+    go None q = refl
+    go (Some LimitKind.Call) q = absurd (omega arith)
+    go (Some LimitKind.Stack) q = absurd (omega arith)
 
 module _ (g : Setting) (set : ℕ → Bool) (w : Tested g set) (lines : ℕ → Type 0) (v : PlainRules g lines) (u : Utf8 g.text)
     (depth limit : ℕ) (e : Exp) (p : Plain e) (c : Calls lines e) (y : Literals e) (z : Steady set e) where
@@ -583,7 +583,7 @@ module _ (g : Setting) (set : ℕ → Bool) (w : Tested g set) (lines : ℕ → 
       first_fit : Fit g (Pest.new limit)
       first_fit = initial_fit g limit u
 
-      go : (r : Ending State) (o : Option (List ℕ)) (m : Ending ParserState) → Recognised g r o → Sim top [] (initial limit).lookahead (initial limit).atomicity (initial limit).siblings r m → Means g (peg e) (whole e) 0 none m
+      go : (r : Ending State) (o : Option (List ℕ)) (m : Ending ParserState) → Recognised g r o → Sim top [] (initial limit).lookahead (initial limit).atomicity (initial limit).siblings r m → Means g (peg e) (whole e) 0 None m
           → Ford (rules_of g) (peg e) (characters_of g.text) o
       go r o m (matched s b) (sim_ok t q i j) (means_ok n k) = (k b).1
       go r o m (failed s b) (sim_err t q i j) (means_err n k) = (k b).1
@@ -593,19 +593,19 @@ module _ (g : Setting) (set : ℕ → Bool) (w : Tested g set) (lines : ℕ → 
   ford_only o h o' f = ford_unique (rules_of g) (peg e) (characters_of g.text) o' f o (ford_at o h)
 
   -- "a run gives 0 only where Ford's relation consumes a prefix of the text"
-  pub ford_parsed : (answer run).number ≡ 0 → (y : List ℕ) × Ford (rules_of g) (peg e) (characters_of g.text) (some y) × ((c : List ℕ) × (characters_of g.text ≡ c ++ y))
+  pub ford_parsed : (answer run).number ≡ 0 → (y : List ℕ) × Ford (rules_of g) (peg e) (characters_of g.text) (Some y) × ((c : List ℕ) × (characters_of g.text ≡ c ++ y))
   ford_parsed q = go _ (numbered g run) q
     where
-      go : (n : ℕ) → Numbered g run n → n ≡ 0 → (y : List ℕ) × Ford (rules_of g) (peg e) (characters_of g.text) (some y) × ((c : List ℕ) × (characters_of g.text ≡ c ++ y))
-      go n (parsed_end y h) q = (y, ford_at (some y) h, ford_suffix (rules_of g) (peg e) (characters_of g.text) y (ford_at (some y) h))
+      go : (n : ℕ) → Numbered g run n → n ≡ 0 → (y : List ℕ) × Ford (rules_of g) (peg e) (characters_of g.text) (Some y) × ((c : List ℕ) × (characters_of g.text ≡ c ++ y))
+      go n (parsed_end y h) q = (y, ford_at (Some y) h, ford_suffix (rules_of g) (peg e) (characters_of g.text) y (ford_at (Some y) h))
       go n (failed_end h) q = absurd (omega arith)
       go n (other_end n' h) q = absurd (omega arith)
 
   -- "and 10 only where it fails"
-  pub ford_failed : (answer run).number ≡ 10 → Ford (rules_of g) (peg e) (characters_of g.text) none
+  pub ford_failed : (answer run).number ≡ 10 → Ford (rules_of g) (peg e) (characters_of g.text) None
   ford_failed q = go _ (numbered g run) q
     where
-      go : (n : ℕ) → Numbered g run n → n ≡ 10 → Ford (rules_of g) (peg e) (characters_of g.text) none
+      go : (n : ℕ) → Numbered g run n → n ≡ 10 → Ford (rules_of g) (peg e) (characters_of g.text) None
       go n (parsed_end y h) q = absurd (omega arith)
-      go n (failed_end h) q = ford_at none h
+      go n (failed_end h) q = ford_at None h
       go n (other_end n' h) q = absurd (omega arith)

@@ -6,7 +6,7 @@ use mathlib.Core.Path.{◌≡◌, refl, subst}
 use mathlib.Core.Bool.{Bool, true, false, ◌&&◌, ◌||◌, not}
 use mathlib.Core.Logic.{◌⊎◌, inl, inr}
 use mathlib.Core.List.{List, [], ◌∷◌, ◌++◌}
-use mathlib.Core.Option.{Option, none, some}
+use Rattle.std.specs.Prelude.{Option, None, Some}
 use Prim.Native.Nat.{ℕ, zero, suc, ◌-◌, ◌≤◌, ◌<◌}
 use native.Mathlib.Omega.{arith}
 use lib.IntN.{ℤ}
@@ -306,7 +306,7 @@ module _ (g : Setting) where
       n = Pest.set_stack (Pest.pop v rest m.stack) m
 
       go : (y : Option ℕ) → Lands g.text q y → ((r : ℕ) → n.position ≤ r → Edge g.text r → Alike g true n.position (Pest.stack_match_pop g.text false line rest r n) (Pest.stack_match_pop g.text false line rest r n))
-          → Alike g true m.position (elim y [ none ↦ Err n | some r ↦ Pest.stack_match_pop g.text false line rest r n ]) (elim y [ none ↦ Err n | some r ↦ Pest.stack_match_pop g.text false line rest r n ])
+          → Alike g true m.position (elim y [ None ↦ Err n | Some r ↦ Pest.stack_match_pop g.text false line rest r n ]) (elim y [ None ↦ Err n | Some r ↦ Pest.stack_match_pop g.text false line rest r n ])
       go y lands_not ih = alike_err n (stay (popped_free v rest m e x))
       go y (lands r k z) ih = ih r (omega arith) z
 
@@ -321,18 +321,18 @@ module _ (g : Setting) where
       third a z false = landed_alike m x _ (all_land g (Pest.slice a z d m.stack.cache) (slice_entries g.text a z d m.stack.cache x.whole.cache) m.position x.edge)
 
       end_at : (a : ℕ) (y : Option ℕ) → Ending ParserState
-      end_at a y = elim y [ none ↦ Err m | some z ↦ slice_at a z (leb z a) ]
+      end_at a y = elim y [ None ↦ Err m | Some z ↦ slice_at a z (leb z a) ]
 
       second : (a : ℕ) (y : Option ℕ) → Alike g true m.position (end_at a y) (end_at a y)
-      second a none = alike_err m (stay x)
-      second a (some z) = third a z (leb z a)
+      second a None = alike_err m (stay x)
+      second a (Some z) = third a z (leb z a)
 
       start_at : (y : Option ℕ) → Ending ParserState
-      start_at y = elim y [ none ↦ Err m | some a ↦ end_at a (Pest.normalize_end j (length m.stack.cache)) ]
+      start_at y = elim y [ None ↦ Err m | Some a ↦ end_at a (Pest.normalize_end j (length m.stack.cache)) ]
 
       first : (y : Option ℕ) → Alike g true m.position (start_at y) (start_at y)
-      first none = alike_err m (stay x)
-      first (some a) = second a (Pest.normalize_end j (length m.stack.cache))
+      first None = alike_err m (stay x)
+      first (Some a) = second a (Pest.normalize_end j (length m.stack.cache))
 
   -- ── Kind 8 ──
   tracking_alike : {b : Bool} {q : ℕ} (c : Bool) (due : Bool) (line r p pi ni prev : ℕ) (k : ParserState → Ending ParserState) (n : ParserState) → On g c q n.position n.stack

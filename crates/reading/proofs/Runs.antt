@@ -3,7 +3,7 @@
 use mathlib.Core.Path.{◌≡◌, sym, ap, ◌∙◌, subst}
 use mathlib.Core.Bool.{Bool, true}
 use mathlib.Core.List.{List, [], ◌++◌}
-use mathlib.Core.Option.{Option, none, some}
+use Rattle.std.specs.Prelude.{Option, None, Some}
 use Prim.Native.Nat.{ℕ, ◌≤◌}
 use lib.ListN.{take, drop}
 use Rattle.reading.specs.declared.parser_state.Lookahead.{Lookahead}
@@ -37,7 +37,7 @@ tested i a = record {
   steady = body_steady i.nodes i.literals a (rule_still i.nodes) (rule_still_is i.nodes);
 }
 
-module _ (i : Input) (e : refusal i ≡ none) where
+module _ (i : Input) (e : refusal i ≡ None) where
   s : Started i
   s = started i e
 
@@ -55,7 +55,7 @@ module _ (i : Input) (e : refusal i ≡ none) where
 
   pub outcome_is : outcome i ≡ laid_out i (answer (reading i))
   unfolding outcome
-  outcome_is = ap (λ (r : Option Refusal). elim r as (λ _. Outcome) [ some x ↦ refused i x | none ↦ laid_out i (answer (reading i)) ]) e
+  outcome_is = ap (λ (r : Option Refusal). elim r as (λ _. Outcome) [ Some x ↦ refused i x | None ↦ laid_out i (answer (reading i)) ]) e
 
   -- ── Demand 2: `state` ──
   -- A run that stops for no added reason answers what pest's `state` gives: number, tokens, furthest, sorted rules.
@@ -107,7 +107,7 @@ module _ (i : Input) (e : refusal i ≡ none) where
       go : Within i (Ok t) → characters_of i.text ≡ characters_of (take t.position i.text) ++ characters_of (drop t.position i.text)
       go (bounded_ok u b) = characters_split t.position i.text s.text_whole b.edge
 
-  module _ (p : plain i.nodes ≡ none) where
+  module _ (p : plain i.nodes ≡ None) where
     rules : PlainRules (setting i) (RuleLine i.nodes)
     rules = record {
       plain = λ l r. body_plain i.nodes i.literals g p l;
@@ -122,18 +122,18 @@ module _ (i : Input) (e : refusal i ≡ none) where
         (tree_plain i.nodes i.literals g p (line_count i.nodes)) (tree_calls i.nodes i.literals g (line_count i.nodes)) root_literals root_steady o h
 
     -- "a run gives 0 only where Ford's relation consumes a prefix of the text"
-    pub ford_0 : (answer (reading i)).number ≡ 0 → (y : List ℕ) × Ford (rules_of (setting i)) (peg at_root) (characters_of i.text) (some y) × ((c : List ℕ) × (characters_of i.text ≡ c ++ y))
+    pub ford_0 : (answer (reading i)).number ≡ 0 → (y : List ℕ) × Ford (rules_of (setting i)) (peg at_root) (characters_of i.text) (Some y) × ((c : List ℕ) × (characters_of i.text ≡ c ++ y))
     unfolding reading
     ford_0 q = ford_parsed (setting i) (rule_still i.nodes) (tested i g) (RuleLine i.nodes) rules s.text_whole i.depth_limit i.call_limit at_root
         (tree_plain i.nodes i.literals g p (line_count i.nodes)) (tree_calls i.nodes i.literals g (line_count i.nodes)) root_literals root_steady q
 
     -- "and 10 only where it fails"
-    pub ford_10 : (answer (reading i)).number ≡ 10 → Ford (rules_of (setting i)) (peg at_root) (characters_of i.text) none
+    pub ford_10 : (answer (reading i)).number ≡ 10 → Ford (rules_of (setting i)) (peg at_root) (characters_of i.text) None
     unfolding reading
     ford_10 q = ford_failed (setting i) (rule_still i.nodes) (tested i g) (RuleLine i.nodes) rules s.text_whole i.depth_limit i.call_limit at_root
         (tree_plain i.nodes i.literals g p (line_count i.nodes)) (tree_calls i.nodes i.literals g (line_count i.nodes)) root_literals root_steady q
 
     -- What Ford's relation leaves is the text from the position on at which the reading ended.
-    pub left_over : (answer (reading i)).number ≡ 0 → (t : State) → reading i ≡ Ok t → Ford (rules_of (setting i)) (peg at_root) (characters_of i.text) (some (characters_of (drop t.position i.text)))
-    left_over q t r = ford (some (characters_of (drop t.position i.text)))
-        (subst (λ (x : Ending State). Recognised (setting i) x (some (characters_of (drop t.position i.text)))) (sym r) (matched t (no_cause t (ap (λ (x : Ending State). (answer x).number) (sym r) ∙ q))))
+    pub left_over : (answer (reading i)).number ≡ 0 → (t : State) → reading i ≡ Ok t → Ford (rules_of (setting i)) (peg at_root) (characters_of i.text) (Some (characters_of (drop t.position i.text)))
+    left_over q t r = ford (Some (characters_of (drop t.position i.text)))
+        (subst (λ (x : Ending State). Recognised (setting i) x (Some (characters_of (drop t.position i.text)))) (sym r) (matched t (no_cause t (ap (λ (x : Ending State). (answer x).number) (sym r) ∙ q))))

@@ -4,7 +4,7 @@ use Rattle.std.specs.Prelude.{if◌then◌else◌}
 use mathlib.Core.Path.{◌≡◌, refl, sym, ap, ap₂, ◌∙◌, subst}
 use mathlib.Core.Bool.{Bool, true, false, ◌&&◌, ◌||◌, not}
 use mathlib.Core.List.{List, [], ◌∷◌, ◌++◌, append-nil}
-use mathlib.Core.Option.{Option, none, some}
+use Rattle.std.specs.Prelude.{Option, None, Some}
 use Prim.Native.Nat.{ℕ, zero, suc, ◌+◌, ◌-◌, ◌<◌}
 use native.Mathlib.Omega.{arith}
 use lib.IntN.{ℤ}
@@ -13,7 +13,8 @@ use lib.Dec.{eqb, ltb, leb}
 use borrow.Author.Tests.{eqb-true, eqb-false, eq-eqb, ne_eqb, ltb-true, lt-ltb, le-ltb}
 use Rattle.matching.specs.Position as Position
 use Rattle.reading.specs.declared.parser_state.Lookahead.{Lookahead}
-use Rattle.reading.specs.declared.parser_state.Lookahead.TheVariants.{Positive, Negative, None}
+use Rattle.reading.specs.declared.parser_state.Lookahead.TheVariants.{Positive, Negative}
+use Rattle.reading.specs.declared.parser_state.Lookahead.TheVariants as Looks
 use Rattle.reading.specs.declared.parser_state.Atomicity.{Atomicity}
 use Rattle.reading.specs.declared.parser_state.Cause.{Cause}
 use Rattle.reading.specs.declared.call_limit_tracker.LimitKind.{LimitKind}
@@ -34,8 +35,8 @@ use Rattle.reading.proofs.Invariant.{keeps_ok, keeps_err, Keeping, KeepsFrom, Te
 
 -- ── The relation ──
 abbrev budget : (limit counted : ℕ) → Option CallLimit
-budget zero n = none
-budget (suc l) n = some (record { current = n; limit = suc l })
+budget zero n = None
+budget (suc l) n = Some (record { current = n; limit = suc l })
 
 abbrev tracker_of : Tracker → CallLimitTracker
 tracker_of t = record { current_call_limit = budget t.limit t.counted; limit_reached = t.cause }
@@ -124,8 +125,8 @@ module _ (g : Setting) where
 
   -- ── Kinds 1 to 5: a move, or none ──
   moved_both : (x : Option ℕ) (o : Open) (ss : List Stk) (p : Stk) (s : State) → Good o ss p s → SimFrom o ss s (Reading.moved x s) (Pest.moved x (pest_of o p s))
-  moved_both none o ss p s i = sim_err s p i (kept_self s)
-  moved_both (some n) o ss p s i = sim_ok (Reading.at_position n s) p (record { base = i.base; inv = i.inv }) (kept_self (Reading.at_position n s))
+  moved_both None o ss p s i = sim_err s p i (kept_self s)
+  moved_both (Some n) o ss p s i = sim_ok (Reading.at_position n s) p (record { base = i.base; inv = i.inv }) (kept_self (Reading.at_position n s))
 
   -- The two positions are the same wherever the state is fit.
   moved_sim : (q mq : ℕ → Option ℕ) → ((m : ParserState) → Fit g m → q m.position ≡ mq m.position)
@@ -146,22 +147,22 @@ data EnterSim : Reading.Entry → Entered → Type 0 where
 
 enter_sim : (limit n : ℕ) (c : Option LimitKind) (room counts : Bool)
     → EnterSim (Reading.enter room counts (record { limit = limit; counted = n; cause = c })) (Pest.enter room counts (tracker_of (record { limit = limit; counted = n; cause = c })))
-enter_sim limit n (some x) room counts = out_both (record { limit = limit; counted = n; cause = some x })
-enter_sim zero n none true true = in_both (record { limit = 0; counted = suc n; cause = none })
-enter_sim zero n none false true = out_both (record { limit = 0; counted = n; cause = some LimitKind.Stack })
-enter_sim zero n none true false = in_both (record { limit = 0; counted = n; cause = none })
-enter_sim zero n none false false = out_both (record { limit = 0; counted = n; cause = some LimitKind.Stack })
-enter_sim (suc l) n none true false = in_both (record { limit = suc l; counted = n; cause = none })
-enter_sim (suc l) n none false false = out_both (record { limit = suc l; counted = n; cause = some LimitKind.Stack })
-enter_sim (suc l) n none room true = go (leb (suc l) n) refl room
+enter_sim limit n (Some x) room counts = out_both (record { limit = limit; counted = n; cause = Some x })
+enter_sim zero n None true true = in_both (record { limit = 0; counted = suc n; cause = None })
+enter_sim zero n None false true = out_both (record { limit = 0; counted = n; cause = Some LimitKind.Stack })
+enter_sim zero n None true false = in_both (record { limit = 0; counted = n; cause = None })
+enter_sim zero n None false false = out_both (record { limit = 0; counted = n; cause = Some LimitKind.Stack })
+enter_sim (suc l) n None true false = in_both (record { limit = suc l; counted = n; cause = None })
+enter_sim (suc l) n None false false = out_both (record { limit = suc l; counted = n; cause = Some LimitKind.Stack })
+enter_sim (suc l) n None room true = go (leb (suc l) n) refl room
   where
     t : Tracker
-    t = record { limit = suc l; counted = n; cause = none }
+    t = record { limit = suc l; counted = n; cause = None }
 
     go : (b : Bool) → leb (suc l) n ≡ b → (room : Bool) → EnterSim (Reading.enter room true t) (Pest.enter room true (tracker_of t))
-    go true e x = rw e (out_both (record { limit = suc l; counted = n; cause = some LimitKind.Call }))
-    go false e true = rw e (in_both (record { limit = suc l; counted = suc n; cause = none }))
-    go false e false = rw e (out_both (record { limit = suc l; counted = n; cause = some LimitKind.Stack }))
+    go true e x = rw e (out_both (record { limit = suc l; counted = n; cause = Some LimitKind.Call }))
+    go false e true = rw e (in_both (record { limit = suc l; counted = suc n; cause = None }))
+    go false e false = rw e (out_both (record { limit = suc l; counted = n; cause = Some LimitKind.Stack }))
 
 module _ (g : Setting) where
   entering_sim : (room counts : Bool) (k : State → Ending State) (mk : ParserState → Ending ParserState) → Preserves g k mk
@@ -249,10 +250,10 @@ module _ (g : Setting) where
   lookahead_same : (b : Bool) (l : Lookahead) → Reading.lookahead_in b l ≡ Pest.lookahead_in b l
   lookahead_same true Positive = refl
   lookahead_same true Negative = refl
-  lookahead_same true None = refl
+  lookahead_same true Looks.None = refl
   lookahead_same false Positive = refl
   lookahead_same false Negative = refl
-  lookahead_same false None = refl
+  lookahead_same false Looks.None = refl
 
   lookahead_sim : (b : Bool) (r : State → Ending State) (m : ParserState → Ending ParserState) → Preserves g r m
       → Preserves g (λ s. Reading.lookahead_end b s (r (Reading.open_checkpoint (Reading.with_lookahead (Reading.lookahead_in b s.lookahead) s)))) (λ x. Pest.lookahead b m x)
@@ -340,8 +341,8 @@ module _ (g : Setting) where
   match_pop_sim line [] at o ss p s i e = sim_ok (Reading.at_position at s) p (record { base = i.base; inv = i.inv }) (kept_self g (Reading.at_position at s))
   match_pop_sim line (x ∷ rest) at o ss p s i e =
       popping_sim line x rest
-      (λ t. elim (Reading.after_entry g.text x at) [ none ↦ Err t | some q ↦ Reading.match_popped g.text line rest q t ])
-      (λ m. elim (Pest.match_string g.text (Pest.as_str g.text x) at) [ none ↦ Err m | some q ↦ Pest.stack_match_pop g.text true line rest q m ])
+      (λ t. elim (Reading.after_entry g.text x at) [ None ↦ Err t | Some q ↦ Reading.match_popped g.text line rest q t ])
+      (λ m. elim (Pest.match_string g.text (Pest.as_str g.text x) at) [ None ↦ Err m | Some q ↦ Pest.stack_match_pop g.text true line rest q m ])
       o ss p s i e
       (λ q j. rw (← string_same g.text (Pest.as_str g.text x) at) (go q (λ n. match_pop_sim line rest n o ss q u j refl) j (Reading.after_entry g.text x at)))
     where
@@ -349,10 +350,10 @@ module _ (g : Setting) where
       u = Reading.with_stack rest (Reading.lower_to (length rest) s.checkpoints) s
 
       go : (q : Stk) → ((n : ℕ) → SimFrom o ss s (Reading.match_popped g.text line rest n u) (Pest.stack_match_pop g.text true line rest n (pest_of o q u))) → Good o ss q u → (y : Option ℕ)
-          → SimFrom o ss s (elim y [ none ↦ Err u | some n ↦ Reading.match_popped g.text line rest n u ])
-          (elim y [ none ↦ Err (pest_of o q u) | some n ↦ Pest.stack_match_pop g.text true line rest n (pest_of o q u) ])
-      go q ih j none = sim_err u q j (kept_self g u)
-      go q ih j (some n) = ih n
+          → SimFrom o ss s (elim y [ None ↦ Err u | Some n ↦ Reading.match_popped g.text line rest n u ])
+          (elim y [ None ↦ Err (pest_of o q u) | Some n ↦ Pest.stack_match_pop g.text true line rest n (pest_of o q u) ])
+      go q ih j None = sim_err u q j (kept_self g u)
+      go q ih j (Some n) = ih n
 
   -- ── Kind 16 ──
   peek_sim : (i : ℤ) (j : Option ℤ) (d : Bool) → Preserves g (λ s. Reading.peeked g.text i j d s) (λ m. Pest.stack_match_peek_slice g.text i j d m)
@@ -367,23 +368,23 @@ module _ (g : Setting) where
       third a z true = sim_ok s p k (kept_self g s)
       third a z false = rw (← slice_same a z d s.stack, ← entries_same g.text (Reading.entries a z d s.stack) s.position) (moved_both g (Reading.after_entries g.text (Reading.entries a z d s.stack) s.position) o ss p s k)
 
-      second : (a : ℕ) (y : Option ℕ) → SimFrom o ss s (elim y [ none ↦ Err s | some z ↦ Reading.sliced g.text a z d s ])
-          (elim y [ none ↦ Err m | some z ↦ elim (leb z a) [ true ↦ Ok m | false ↦ Pest.moved (Pest.all_match g.text (Pest.slice a z d s.stack) s.position) m ] ])
-      second a none = sim_err s p k (kept_self g s)
-      second a (some z) = third a z (leb z a)
+      second : (a : ℕ) (y : Option ℕ) → SimFrom o ss s (elim y [ None ↦ Err s | Some z ↦ Reading.sliced g.text a z d s ])
+          (elim y [ None ↦ Err m | Some z ↦ elim (leb z a) [ true ↦ Ok m | false ↦ Pest.moved (Pest.all_match g.text (Pest.slice a z d s.stack) s.position) m ] ])
+      second a None = sim_err s p k (kept_self g s)
+      second a (Some z) = third a z (leb z a)
 
       model_end : ℕ → Option ℕ → Ending ParserState
-      model_end a y = elim y [ none ↦ Err m | some z ↦ elim (leb z a) [ true ↦ Ok m | false ↦ Pest.moved (Pest.all_match g.text (Pest.slice a z d s.stack) s.position) m ] ]
+      model_end a y = elim y [ None ↦ Err m | Some z ↦ elim (leb z a) [ true ↦ Ok m | false ↦ Pest.moved (Pest.all_match g.text (Pest.slice a z d s.stack) s.position) m ] ]
 
       model : Option ℕ → Ending ParserState
-      model x = elim x [ none ↦ Err m | some a ↦ model_end a (Pest.normalize_end j (length s.stack)) ]
+      model x = elim x [ None ↦ Err m | Some a ↦ model_end a (Pest.normalize_end j (length s.stack)) ]
 
       reading_end : ℕ → Option ℕ → Ending State
-      reading_end a y = elim y [ none ↦ Err s | some z ↦ Reading.sliced g.text a z d s ]
+      reading_end a y = elim y [ None ↦ Err s | Some z ↦ Reading.sliced g.text a z d s ]
 
-      first : (x : Option ℕ) → SimFrom o ss s (elim x [ none ↦ Err s | some a ↦ reading_end a (Reading.end_in (length s.stack) j) ]) (model x)
-      first none = sim_err s p k (kept_self g s)
-      first (some a) = subst (λ (y : Option ℕ). SimFrom o ss s (reading_end a (Reading.end_in (length s.stack) j)) (model_end a y)) (end_same j (length s.stack)) (second a (Reading.end_in (length s.stack) j))
+      first : (x : Option ℕ) → SimFrom o ss s (elim x [ None ↦ Err s | Some a ↦ reading_end a (Reading.end_in (length s.stack) j) ]) (model x)
+      first None = sim_err s p k (kept_self g s)
+      first (Some a) = subst (λ (y : Option ℕ). SimFrom o ss s (reading_end a (Reading.end_in (length s.stack) j)) (model_end a y)) (end_same j (length s.stack)) (second a (Reading.end_in (length s.stack) j))
 
   -- ── Kind 19 ──
   tag_sim : (u : ℕ) → Preserves g (λ s. Reading.tagged u s) (λ m. Pest.tag_node u m)
@@ -624,7 +625,7 @@ module _ (g : Setting) (set : ℕ → Bool) (w : Tested g set) where
 
   refuses : (e : Exp) → Literals e → Steady set e → Preserves g (Reading.no_deeper g e) (Pest.no_deeper g true e)
   refuses e u y o ss p s i v =
-      let t : State = Reading.with_tracker (record { limit = s.tracker.limit; counted = s.tracker.counted; cause = some LimitKind.Stack }) s in
+      let t : State = Reading.with_tracker (record { limit = s.tracker.limit; counted = s.tracker.counted; cause = Some LimitKind.Stack }) s in
       sim_err t p (record { base = i.base; inv = i.inv }) (kept_self g t)
 
   -- From related states the reading and pest end alike, at every depth and for every tree.

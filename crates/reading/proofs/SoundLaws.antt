@@ -25,10 +25,6 @@ fits_to (fits_none l) le l' = fits_none l'
 fits_to {h' = h'} (fits_one {k = k} l u o f) le l' = let u' : k.lowest ≤ h' = omega arith in fits_one l' u' o f
 
 -- ── Kept by each operation ──
--- The stack of `ParserState::new`.
-pub sound_new : Sound (pest [] [] [])
-sound_new = let z : 0 ≤ 128 = omega arith in record { fits = fits_none z; owed = refl; low = omega arith }
-
 pub sound_push : (x : Span) (v : Pest.Stack) → Sound v → length v.cache < 128 → Sound (push x v)
 sound_push x v s l = record { fits = fits_to s.fits (omega arith) l; owed = s.owed; low = s.low }
 
@@ -112,9 +108,6 @@ pub sound_restore : (v : Pest.Stack) → Sound v → Sound (restore v)
 sound_restore v s = restore_sound v.cache v.popped v.lengths s
 
 -- ── How many checkpoints are open ──
-pub lengths_push : (x : Span) (v : Pest.Stack) → length (push x v).lengths ≡ length v.lengths
-lengths_push x v = refl
-
 pub lengths_pop : (x : Span) (rest : List Span) (v : Pest.Stack) → length (pop x rest v).lengths ≡ length v.lengths
 lengths_pop x rest v = go v.lengths
   where
@@ -126,9 +119,6 @@ lengths_pop x rest v = go v.lengths
     go : (ks : List Checkpoint) → length (pop x rest (pest v.cache v.popped ks)).lengths ≡ length ks
     go [] = refl
     go (k ∷ ks) = pick (eqb (suc (length rest)) k.lowest) k ks
-
-pub lengths_snapshot : (v : Pest.Stack) → length (snapshot v).lengths ≡ suc (length v.lengths)
-lengths_snapshot v = refl
 
 pub lengths_clear : (v : Pest.Stack) → length (clear_snapshot v).lengths ≡ length v.lengths - 1
 lengths_clear v = go v.lengths

@@ -4,7 +4,7 @@ use Rattle.std.specs.Prelude.{if◌then◌else◌}
 use mathlib.Core.Path.{◌≡◌, refl}
 use mathlib.Core.Bool.{Bool, true, false, ◌&&◌, ◌||◌, not}
 use mathlib.Core.List.{List, [], ◌∷◌, ◌++◌}
-use mathlib.Core.Option.{Option, none, some}
+use Rattle.std.specs.Prelude.{Option, None, Some}
 use Prim.Native.Nat.{ℕ, zero, suc}
 use lib.ListN.{length, take, set, get_or}
 use lib.Dec.{eqb, ltb, leb}
@@ -143,14 +143,14 @@ module _ (g : Setting) where
   match_pop_frees : (line : ℕ) (c : List Span) (p : ℕ) → Frees (λ m. Pest.stack_match_pop g.text true line c p m) (λ m. Pest.stack_match_pop g.text false line c p m)
   match_pop_frees line [] p m = freed _
   match_pop_frees line (x ∷ rest) p m = popping_frees line x rest m
-      (λ n. elim (Pest.match_string g.text (Pest.as_str g.text x) p) [ none ↦ Err n | some q ↦ Pest.stack_match_pop g.text true line rest q n ])
-      (λ n. elim (Pest.match_string g.text (Pest.as_str g.text x) p) [ none ↦ Err n | some q ↦ Pest.stack_match_pop g.text false line rest q n ])
+      (λ n. elim (Pest.match_string g.text (Pest.as_str g.text x) p) [ None ↦ Err n | Some q ↦ Pest.stack_match_pop g.text true line rest q n ])
+      (λ n. elim (Pest.match_string g.text (Pest.as_str g.text x) p) [ None ↦ Err n | Some q ↦ Pest.stack_match_pop g.text false line rest q n ])
       (λ n. go (Pest.match_string g.text (Pest.as_str g.text x) p) n (λ q. match_pop_frees line rest q))
     where
       go : (o : Option ℕ) (n : ParserState) → ((q : ℕ) → Frees (λ m. Pest.stack_match_pop g.text true line rest q m) (λ m. Pest.stack_match_pop g.text false line rest q m))
-          → Freed (elim o [ none ↦ Err n | some q ↦ Pest.stack_match_pop g.text true line rest q n ]) (elim o [ none ↦ Err n | some q ↦ Pest.stack_match_pop g.text false line rest q n ])
-      go none n ih = freed (Err n)
-      go (some q) n ih = ih q n
+          → Freed (elim o [ None ↦ Err n | Some q ↦ Pest.stack_match_pop g.text true line rest q n ]) (elim o [ None ↦ Err n | Some q ↦ Pest.stack_match_pop g.text false line rest q n ])
+      go None n ih = freed (Err n)
+      go (Some q) n ih = ih q n
 
   -- ── All kinds ──
   module _ (room : Bool) (d e : Exp → ParserState → Ending ParserState) (k : (x : Exp) → Frees (d x) (e x)) where

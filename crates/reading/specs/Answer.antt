@@ -1,6 +1,6 @@
 -- What document 01 answers to pest's endings.
 use Rattle.std.specs.Prelude.{List, [], ◌∷◌}
-use Rattle.std.proofs.Math.Option.{none, some}
+use Rattle.std.specs.Prelude.{None, Some}
 use Rattle.reading.specs.declared.parser_state.Cause.TheVariants.{EmptyStack}
 use Rattle.reading.specs.Ending.{Ending, Ok, Err, Stop}
 use Rattle.reading.specs.Forest.{Token, start_token, end_token}
@@ -18,9 +18,9 @@ tokens_of (t ∷ q) = token_of t ∷ tokens_of q
 
 -- To an ending of pest's with document 01's stops, as `answer` of Outcome is to the reading's.
 abbrev pub pest_answer : Ending ParserState → Answer
-pest_answer (Ok m) = elim m.call_tracker.limit_reached [ some c ↦ of_limit c m.attempt_pos | none ↦ of_tokens (tokens_of m.queue) ]
+pest_answer (Ok m) = elim m.call_tracker.limit_reached [ Some c ↦ of_limit c m.attempt_pos | None ↦ of_tokens (tokens_of m.queue) ]
 pest_answer (Err m) =
-    elim m.call_tracker.limit_reached [ some c ↦ of_limit c m.attempt_pos | none ↦ of_failure m.attempt_pos (ascending m.pos_attempts) (ascending m.neg_attempts) ]
+    elim m.call_tracker.limit_reached [ Some c ↦ of_limit c m.attempt_pos | None ↦ of_failure m.attempt_pos (ascending m.pos_attempts) (ascending m.neg_attempts) ]
 pest_answer (Stop c) = of_cause c
 
 -- To what pest's `state` gives. A panic is no answer of a run.

@@ -1,6 +1,6 @@
 -- The cases M1 to M10 of document 01, "Plans on the test desk", of the reading, in one table: each run is started, and answers.
 use Rattle.std.specs.Prelude.{◌≡◌, refl, List, [], ◌∷◌, map, ℕ, replicate, ℤ, pos, negsuc}
-use Rattle.std.proofs.Math.Option.{Option, none}
+use Rattle.std.specs.Prelude.{Option, None}
 use Rattle.matching.specs.Utf8.{decode, characters}
 use Rattle.matching.specs.Position.{match_by, match_char_by}
 use Rattle.reading.specs.Grammar.{Node, node_at, fields_fit, tree_of, trees}
@@ -52,7 +52,7 @@ given c = record { refused = refusal (handed c); answered = answer (reading (han
 
 -- None does, and the answer is document 01's.
 abbrev wanted : Case → Given
-wanted c = record { refused = none; answered = c.expected }
+wanted c = record { refused = None; answered = c.expected }
 
 abbrev M1 : List Node
 M1 = node 1 0 1 0 ∷ node 8 7 1 0 ∷ node 19 3 0 0 ∷ node 6 2 3 0 ∷ []

@@ -1,6 +1,6 @@
 -- Demand 1, in the customer's words, of what a run gave. Of a sheet's reading (1 to 3) the crate sheet has the same.
 use Rattle.std.specs.Prelude.{◌≡◌, List, ℕ, ◌≤◌, length}
-use Rattle.std.proofs.Math.Option.{none, some}
+use Rattle.std.specs.Prelude.{None, Some}
 use Rattle.matching.specs.Utf8.{Edge}
 use Rattle.reading.specs.declared.parser_state.Cause.{Cause}
 use Rattle.reading.specs.Ending.{Ending, Ok, Err, Stop}
@@ -40,10 +40,10 @@ pub data Ended : ℕ → Type 0 where
 
 -- `before` and `after`: scratch.
 pub record Demand1 (i : Input) (o : Outcome) (before after : List ℕ) : Type 0 where
-  pub refused : (r : Refusal) → refusal i ≡ some r → Refused i r o before after
+  pub refused : (r : Refusal) → refusal i ≡ Some r → Refused i r o before after
   -- "Every other sheet, text and limit is accepted and run to an end."
-  pub accepted : refusal i ≡ none → Ended o.number
+  pub accepted : refusal i ≡ None → Ended o.number
   -- "full lists, a pop of an empty stack": their numbers, and both areas zeroed.
-  pub full : refusal i ≡ none → (c : Cause) → reading i ≡ Stop c → o ≡ started i (of_cause c)
+  pub full : refusal i ≡ None → (c : Cause) → reading i ≡ Stop c → o ≡ started i (of_cause c)
   -- So nothing is cut silently.
-  pub within : refusal i ≡ none → Within i (reading i)
+  pub within : refusal i ≡ None → Within i (reading i)

@@ -1,6 +1,6 @@
 -- Demand 2, in the customer's words, of what a started run gave.
 use Rattle.std.specs.Prelude.{◌≡◌, List, ◌++◌, ◌↔◌, ◌⊎◌, ℕ, ◌≤◌, take}
-use Rattle.std.proofs.Math.Option.{Option, none, some}
+use Rattle.std.specs.Prelude.{Option, None, Some}
 use Rattle.reading.specs.Ending.{Ending, Ok}
 use Rattle.reading.specs.Reading.{State}
 use Rattle.reading.specs.Grammar.{root, plain}
@@ -17,12 +17,12 @@ Relates i o = Ford (rules_of (setting i)) (peg (root i.nodes i.literals)) (chara
 -- "Ford's relation consumes a prefix of the text"
 pub record Consumes (i : Input) (prefix : List ℕ) : Type 0 where
   pub left : List ℕ
-  pub relates : Relates i (some left)
+  pub relates : Relates i (Some left)
   pub whole : characters_of i.text ≡ prefix ++ left
 
 -- "it fails"
 abbrev pub Fails : Input → Type 0
-Fails i = Relates i none
+Fails i = Relates i None
 
 -- The text's characters up to the position of a state.
 abbrev pub up_to : Input → State → List ℕ
@@ -47,11 +47,11 @@ pub record Demand2 (i : Input) (o : Outcome) : Type 0 where
   pub loops : (spent other : ParserState → Ending ParserState) → pest_ending i spent ≡ pest_ending i other
   -- "for every grammar that document 01 calls plain, match or failure is proved equal to Ford's 2004 definition": a run that gives 0
   -- or 10 gives 0 exactly where Ford's relation consumes a prefix of the text ..
-  pub matches : plain i.nodes ≡ none → MatchOrFailure o.number → (o.number ≡ 0) ↔ ((prefix : List ℕ) × Consumes i prefix)
+  pub matches : plain i.nodes ≡ None → MatchOrFailure o.number → (o.number ≡ 0) ↔ ((prefix : List ℕ) × Consumes i prefix)
   -- .. and 10 exactly where it fails.
-  pub fails : plain i.nodes ≡ none → MatchOrFailure o.number → (o.number ≡ 10) ↔ Fails i
+  pub fails : plain i.nodes ≡ None → MatchOrFailure o.number → (o.number ≡ 10) ↔ Fails i
   -- What it consumes is the text up to the position at which the reading ended, and nothing else.
-  pub consumed : plain i.nodes ≡ none → o.number ≡ 0 → (s : State) → reading i ≡ Ok s
+  pub consumed : plain i.nodes ≡ None → o.number ≡ 0 → (s : State) → reading i ≡ Ok s
       → (prefix : List ℕ) → Consumes i prefix ↔ (prefix ≡ up_to i s)
   -- Ford's relation gives at most one answer, whatever the run gave.
   pub only : (x y : Option (List ℕ)) → Relates i x → Relates i y → x ≡ y

@@ -1,7 +1,7 @@
 -- Demand 3, in the customer's words, of what two started runs gave.
 use Rattle.std.specs.Prelude.{◌≡◌, ◌↔◌, ℕ, ◌*◌, length, take}
 use mathlib.Core.List.{List, Memᴰ}
-use Rattle.std.proofs.Math.Option.{none}
+use Rattle.std.specs.Prelude.{None}
 use Rattle.reading.specs.Ending.{Ending, Ok, Err}
 use Rattle.reading.specs.Forest.{Forest, tokens}
 use Rattle.reading.specs.Reading.{State, Attempts}
@@ -9,11 +9,11 @@ use Rattle.reading.specs.Outcome.{Input, reading, ascending, report_of, numbers,
 
 -- "The reading's forest is the siblings it ends with": it comes to 0 with a forest.
 pub data Parses : Ending State → Forest → Type 0 where
-  parses : (s : State) → s.tracker.cause ≡ none → Parses (Ok s) s.siblings
+  parses : (s : State) → s.tracker.cause ≡ None → Parses (Ok s) s.siblings
 
 -- "its two sets the rules then in its positive and in its negative list": it comes to 10 with attempts.
 pub data Fails : Ending State → Attempts → Type 0 where
-  fails : (s : State) → s.tracker.cause ≡ none → Fails (Err s) s.attempts
+  fails : (s : State) → s.tracker.cause ≡ None → Fails (Err s) s.attempts
 
 -- The two lists hold the same numbers.
 abbrev pub SameSet : List ℕ → List ℕ → Type 0

@@ -1,7 +1,7 @@
 -- Ford (2004), "Parsing Expression Grammars", section 3: expressions over characters, and the relation of an expression and an
 -- input to what it leaves of the input, or to failure. And the expression that a plain node stands for.
 use Rattle.std.specs.Prelude.{◌≡◌, Bool, true, false, List, [], ◌∷◌, ℕ, zero, suc, eqb}
-use Rattle.std.proofs.Math.Option.{Option, none, some}
+use Rattle.std.specs.Prelude.{Option, None, Some}
 use Rattle.matching.specs.Utf8.{within, characters}
 use Rattle.matching.specs.Position.{same_folded}
 use Rattle.reading.specs.Reading.{Setting}
@@ -22,25 +22,25 @@ pub data Peg : Type 0 where
 -- Section 3.3. An input is a list of characters; `some y`: a prefix is consumed, and y is left; `none`: f, failure.
 pub data Ford (rules : ℕ → Peg) : Peg → List ℕ → Option (List ℕ) → Type 0 where
   -- 1. Empty
-  f_empty : (x : List ℕ) → Ford rules ε x (some x)
+  f_empty : (x : List ℕ) → Ford rules ε x (Some x)
   -- 2. Terminal (success case), 3. Terminal (failure case)
-  f_terminal : (p : ℕ → Bool) (a : ℕ) (x : List ℕ) → p a ≡ true → Ford rules (class p) (a ∷ x) (some x)
-  f_terminal_fail : (p : ℕ → Bool) (a : ℕ) (x : List ℕ) → p a ≡ false → Ford rules (class p) (a ∷ x) none
-  f_terminal_end : (p : ℕ → Bool) → Ford rules (class p) [] none
+  f_terminal : (p : ℕ → Bool) (a : ℕ) (x : List ℕ) → p a ≡ true → Ford rules (class p) (a ∷ x) (Some x)
+  f_terminal_fail : (p : ℕ → Bool) (a : ℕ) (x : List ℕ) → p a ≡ false → Ford rules (class p) (a ∷ x) None
+  f_terminal_end : (p : ℕ → Bool) → Ford rules (class p) [] None
   -- 4. Nonterminal
   f_nonterminal : (l : ℕ) (x : List ℕ) (o : Option (List ℕ)) → Ford rules (rules l) x o → Ford rules (nonterminal l) x o
   -- 5. Sequence (success case), 6. Sequence (failure case 1), 7. Sequence (failure case 2)
-  f_sequence : (e d : Peg) (x y : List ℕ) (o : Option (List ℕ)) → Ford rules e x (some y) → Ford rules d y o → Ford rules (e then d) x o
-  f_sequence_fail : (e d : Peg) (x : List ℕ) → Ford rules e x none → Ford rules (e then d) x none
+  f_sequence : (e d : Peg) (x y : List ℕ) (o : Option (List ℕ)) → Ford rules e x (Some y) → Ford rules d y o → Ford rules (e then d) x o
+  f_sequence_fail : (e d : Peg) (x : List ℕ) → Ford rules e x None → Ford rules (e then d) x None
   -- 8. Alternation (case 1), 9. Alternation (case 2)
-  f_first : (e d : Peg) (x y : List ℕ) → Ford rules e x (some y) → Ford rules (e or d) x (some y)
-  f_second : (e d : Peg) (x : List ℕ) (o : Option (List ℕ)) → Ford rules e x none → Ford rules d x o → Ford rules (e or d) x o
+  f_first : (e d : Peg) (x y : List ℕ) → Ford rules e x (Some y) → Ford rules (e or d) x (Some y)
+  f_second : (e d : Peg) (x : List ℕ) (o : Option (List ℕ)) → Ford rules e x None → Ford rules d x o → Ford rules (e or d) x o
   -- 10. Zero-or-more repetitions (repetition case), 11. (termination case)
-  f_more : (e : Peg) (x y : List ℕ) (o : Option (List ℕ)) → Ford rules e x (some y) → Ford rules (star e) y o → Ford rules (star e) x o
-  f_done : (e : Peg) (x : List ℕ) → Ford rules e x none → Ford rules (star e) x (some x)
+  f_more : (e : Peg) (x y : List ℕ) (o : Option (List ℕ)) → Ford rules e x (Some y) → Ford rules (star e) y o → Ford rules (star e) x o
+  f_done : (e : Peg) (x : List ℕ) → Ford rules e x None → Ford rules (star e) x (Some x)
   -- 12. Not-predicate (case 1), 13. Not-predicate (case 2)
-  f_not_fail : (e : Peg) (x y : List ℕ) → Ford rules e x (some y) → Ford rules (not e) x none
-  f_not : (e : Peg) (x : List ℕ) → Ford rules e x none → Ford rules (not e) x (some x)
+  f_not_fail : (e : Peg) (x y : List ℕ) → Ford rules e x (Some y) → Ford rules (not e) x None
+  f_not : (e : Peg) (x : List ℕ) → Ford rules e x None → Ford rules (not e) x (Some x)
 
 -- ── The expression of a plain node ──
 -- The classes of some characters, one after the other.
@@ -50,8 +50,8 @@ each same (c ∷ cs) = class (same c) then each same cs
 
 -- The same of a text; a text that is not UTF-8 stands in no accepted grammar.
 abbrev pub each_of : (ℕ → ℕ → Bool) → Option (List ℕ) → Peg
-each_of same none = ε
-each_of same (some cs) = each same cs
+each_of same None = ε
+each_of same (Some cs) = each same cs
 
 -- Any character (section 3.2).
 abbrev pub any : Peg
@@ -93,8 +93,8 @@ abbrev pub rules_of : Setting → ℕ → Peg
 rules_of g l = peg (g.rule_at l).body
 
 abbrev pub or_nil : Option (List ℕ) → List ℕ
-or_nil none = []
-or_nil (some vs) = vs
+or_nil None = []
+or_nil (Some vs) = vs
 
 -- The characters of a text; none of a text that is not UTF-8.
 abbrev pub characters_of : List ℕ → List ℕ

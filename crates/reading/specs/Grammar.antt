@@ -1,6 +1,6 @@
 -- Grammars as node lines: the table of kinds, and the tree that a line stands for. Document 01, "Nodes".
 use Rattle.std.specs.Prelude.{Bool, true, false, ◌&&◌, ◌||◌, not, List, [], ◌∷◌, ◌++◌, ℕ, zero, suc, ◌+◌, ◌-◌, ◌*◌, ◌/◌, ℤ, pos, negsuc, length, get_or, take, drop, eqb, leb, ltb, if◌then◌else◌}
-use Rattle.std.proofs.Math.Option.{Option, none, some}
+use Rattle.std.specs.Prelude.{Option, None, Some}
 use Rattle.matching.specs.Utf8.{within, is_utf8}
 use Rattle.reading.specs.declared.parser_state.Atomicity.{Atomicity}
 use Rattle.reading.specs.declared.parser_state.Atomicity.TheVariants.{Atomic, CompoundAtomic, NonAtomic}
@@ -39,8 +39,8 @@ row rows other k = get_or rows (natural k - 1) other
 
 -- The first of n lines, from `line` on, that a test finds.
 abbrev pub first_line : (ℕ → Bool) → (line n : ℕ) → Option ℕ
-first_line test l zero = none
-first_line test l (suc n) = if test l then some l else first_line test (suc l) n
+first_line test l zero = None
+first_line test l (suc n) = if test l then Some l else first_line test (suc l) n
 
 -- ── The table of kinds (refusal 5) ──
 abbrev pub between : (low high : ℕ) → ℤ → Bool
@@ -119,7 +119,7 @@ module _ (ns : List ℤ) (literals : List ℕ) where
   misfit =
       if eqb (line_count ns * 4) (length ns) && within 1 4096 (line_count ns)
       then first_line (λ l. not (line_fits l)) 1 (line_count ns)
-      else some 0
+      else Some 0
 
 -- ── The tree of a line ──
 -- A node with what it names put in its place, but for a call, which keeps its line. Those that can stop a run carry their own line.
@@ -151,7 +151,7 @@ atomicity_of (suc (suc n)) = NonAtomic
 abbrev pub peek_slice : Node → Exp
 peek_slice n =
     let c : ℕ = natural n.c in
-    stack_match_peek_slice n.a (if ltb c 2 then some n.b else none) (eqb c 1 || eqb c 3)
+    stack_match_peek_slice n.a (if ltb c 2 then Some n.b else None) (eqb c 1 || eqb c 3)
 
 -- The tree of the node at `line`, over the trees of the lines below it, the first line first.
 unfoldable pub tree_of : (literals : List ℕ) → (below : List Exp) → (line : ℕ) → Node → Exp

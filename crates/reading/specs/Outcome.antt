@@ -1,6 +1,6 @@
 -- What a run returns and what stands in each area afterwards. Document 01, "Stops and refusals".
 use Rattle.std.specs.Prelude.{Bool, ◌&&◌, List, [], ◌∷◌, ◌++◌, ℕ, ◌+◌, ◌-◌, ◌/◌, min, ℤ, length, replicate, eqb, ltb, leb, if◌then◌else◌}
-use Rattle.std.proofs.Math.Option.{Option, none, some}
+use Rattle.std.specs.Prelude.{Option, None, Some}
 use Rattle.matching.specs.Utf8.{within, is_utf8}
 use Rattle.reading.specs.declared.parser_state.Cause.{Cause}
 use Rattle.reading.specs.declared.parser_state.Cause.TheVariants.{EmptyStack, TokensFull, StackFull, AttemptsFull}
@@ -29,12 +29,12 @@ pub record Refusal : Type 0 where
   pub place : ℕ
 
 abbrev pub refuse : ℕ → Option ℕ → Option Refusal
-refuse n none = none
-refuse n (some p) = some (record { number = n; place = p })
+refuse n None = None
+refuse n (Some p) = Some (record { number = n; place = p })
 
 -- A refusal that names no place.
 abbrev pub unless : Bool → Option ℕ
-unless good = if good then none else some 0
+unless good = if good then None else Some 0
 
 -- "over 65,535 bytes or not UTF-8"
 abbrev pub good_text : List ℕ → Bool
@@ -61,9 +61,9 @@ abbrev pub tests : Input → List (Option Refusal)
 tests i = tests_on i.nodes i.literals i.text i.depth_limit (length i.report) i.scratch
 
 abbrev pub first_of : List (Option Refusal) → Option Refusal
-first_of [] = none
-first_of (none ∷ ts) = first_of ts
-first_of (some r ∷ ts) = some r
+first_of [] = None
+first_of (None ∷ ts) = first_of ts
+first_of (Some r ∷ ts) = Some r
 
 -- The first test that fails.
 abbrev pub refusal_on : List ℤ → (literals text : List ℕ) → (depth_limit report scratch : ℕ) → Option Refusal
@@ -135,11 +135,11 @@ of_tokens ts = record { number = 0; place = 0; count = length ts; tokens = ts; r
 
 -- "Ok without a limit cause is 0, even with text left over."
 abbrev pub answer : Ending State → Answer
-answer (Ok s) = elim s.tracker.cause [ some c ↦ of_limit c s.attempts.furthest | none ↦ of_tokens (tokens s.siblings) ]
+answer (Ok s) = elim s.tracker.cause [ Some c ↦ of_limit c s.attempts.furthest | None ↦ of_tokens (tokens s.siblings) ]
 answer (Err s) =
     elim s.tracker.cause [
-      | some c ↦ of_limit c s.attempts.furthest
-      | none ↦ of_failure s.attempts.furthest (ascending s.attempts.positive) (ascending s.attempts.negative)
+      | Some c ↦ of_limit c s.attempts.furthest
+      | None ↦ of_failure s.attempts.furthest (ascending s.attempts.positive) (ascending s.attempts.negative)
     ]
 answer (Stop c) = of_cause c
 
@@ -173,4 +173,4 @@ abbrev pub refused : Input → Refusal → Outcome
 refused i r = record { number = r.number; place = r.place; count = 0; tokens = i.tokens; report = i.report }
 
 unfoldable pub outcome : Input → Outcome
-outcome i = elim (refusal i) [ some r ↦ refused i r | none ↦ started i (answer (reading i)) ]
+outcome i = elim (refusal i) [ Some r ↦ refused i r | None ↦ started i (answer (reading i)) ]

@@ -9,12 +9,13 @@
 -- `is_none`, `is_negative`, `is_atomic`. Of Reading: `is_set`. Shared too, but no part of pest: the stops (`stop_if`, `debt`, the bounds)
 -- and the number of rounds that a loop is given (`most_rounds`; see `loop`).
 use Rattle.std.specs.Prelude.{Bool, true, false, ◌&&◌, ◌||◌, not, List, [], ◌∷◌, ◌++◌, reverse, ℕ, zero, suc, ◌+◌, ◌-◌, min, ℤ, pos, negsuc, ◌+ℤ◌, length, get_or, take, drop, set, eqb, ltb, leb, if◌then◌else◌}
-use Rattle.std.proofs.Math.Option.{Option, none, some}
+use Rattle.std.specs.Prelude.{Option, None, Some}
 use Rattle.std.specs.Int.Signed.{lt_z, non_neg}
 use Rattle.matching.specs.Utf8.{decode, within}
 use Rattle.matching.specs.Position.{past, same_folded, is_char_boundary, bytes_of}
 use Rattle.reading.specs.declared.parser_state.Lookahead.{Lookahead}
-use Rattle.reading.specs.declared.parser_state.Lookahead.TheVariants.{Positive, Negative, None}
+use Rattle.reading.specs.declared.parser_state.Lookahead.TheVariants.{Positive, Negative}
+use Rattle.reading.specs.declared.parser_state.Lookahead.TheVariants as Looks
 use Rattle.reading.specs.declared.parser_state.Atomicity.{Atomicity}
 use Rattle.reading.specs.declared.parser_state.Atomicity.TheVariants.{Atomic, CompoundAtomic, NonAtomic}
 use Rattle.reading.specs.declared.parser_state.Cause.TheVariants.{EmptyStack, TokensFull, StackFull, AttemptsFull}
@@ -90,8 +91,8 @@ pub record CallLimitTracker : Type 0 where
   pub limit_reached : Option LimitKind
 
 abbrev pub exceeded : Option CallLimit → Bool
-exceeded none = false
-exceeded (some c) = leb c.limit c.current
+exceeded None = false
+exceeded (Some c) = leb c.limit c.current
 
 -- What `enter` answers, and the tracker after it.
 pub record Entered : Type 0 where
@@ -99,16 +100,16 @@ pub record Entered : Type 0 where
   pub tracker : CallLimitTracker
 
 abbrev pub reached : LimitKind → CallLimitTracker → Entered
-reached c t = record { answer = false; tracker = record { current_call_limit = t.current_call_limit; limit_reached = some c } }
+reached c t = record { answer = false; tracker = record { current_call_limit = t.current_call_limit; limit_reached = Some c } }
 
 abbrev pub one_more : Option CallLimit → Option CallLimit
-one_more none = none
-one_more (some c) = some (record { current = suc c.current; limit = c.limit })
+one_more None = None
+one_more (Some c) = Some (record { current = suc c.current; limit = c.limit })
 
 -- `REQUIRED_STACK_SPACE`
 abbrev pub short_of_stack : Option ℕ → Bool
-short_of_stack none = false
-short_of_stack (some remaining) = ltb remaining 65536
+short_of_stack None = false
+short_of_stack (Some remaining) = ltb remaining 65536
 
 abbrev pub enter_with_stack : (count_call : Bool) → Option ℕ → CallLimitTracker → Entered
 enter_with_stack count_call space t =
@@ -119,7 +120,7 @@ enter_with_stack count_call space t =
 
 -- Document 01's stand-in: "gives `Some(0)` when the open calls number the depth limit or more, else `None`".
 abbrev pub remaining_stack : (room : Bool) → Option ℕ
-remaining_stack room = if room then none else some 0
+remaining_stack room = if room then None else Some 0
 
 abbrev pub enter : (room count_call : Bool) → CallLimitTracker → Entered
 enter room count_call t =
@@ -144,13 +145,13 @@ abbrev pub new : (call_limit : ℕ) → ParserState
 new l = record {
   position = 0;
   queue = [];
-  lookahead = None;
+  lookahead = Looks.None;
   pos_attempts = [];
   neg_attempts = [];
   attempt_pos = 0;
   atomicity = NonAtomic;
   stack = record { cache = []; popped = []; lengths = [] };
-  call_tracker = record { current_call_limit = if ltb 0 l then some (record { current = 0; limit = l }) else none; limit_reached = none };
+  call_tracker = record { current_call_limit = if ltb 0 l then Some (record { current = 0; limit = l }) else None; limit_reached = None };
 }
 
 abbrev pub set_position : ℕ → ParserState → ParserState
@@ -308,10 +309,10 @@ optional (Err m) = if limit_reached m then Err m else Ok m
 optional (Stop c) = Stop c
 
 abbrev pub lookahead_in : (is_positive : Bool) → Lookahead → Lookahead
-lookahead_in true None = Positive
+lookahead_in true Looks.None = Positive
 lookahead_in true Positive = Positive
 lookahead_in true Negative = Negative
-lookahead_in false None = Negative
+lookahead_in false Looks.None = Negative
 lookahead_in false Positive = Negative
 lookahead_in false Negative = Positive
 
@@ -374,23 +375,23 @@ has_part slice len = leb len (length slice) && is_char_boundary slice len
 
 -- `for _ in 0..n` over `chars()`: the bytes skipped
 abbrev pub skipped : ℕ → List ℕ → (len : ℕ) → Option ℕ
-skipped zero x len = some len
-skipped (suc n) x len = elim (decode x) [ none ↦ none | some c ↦ skipped n (drop c.size x) (len + c.size) ]
+skipped zero x len = Some len
+skipped (suc n) x len = elim (decode x) [ None ↦ None | Some c ↦ skipped n (drop c.size x) (len + c.size) ]
 
 abbrev pub advance : ℕ → Option ℕ → Option ℕ
-advance p none = none
-advance p (some len) = some (p + len)
+advance p None = None
+advance p (Some len) = Some (p + len)
 
 module _ (input : List ℕ) where
   abbrev pub match_string : List ℕ → ℕ → Option ℕ
   match_string string p =
       let to : ℕ = p + length string in
-      if leb to (length input) && same_bytes eqb string (take (length string) (drop p input)) then some to else none
+      if leb to (length input) && same_bytes eqb string (take (length string) (drop p input)) then Some to else None
 
   abbrev pub match_insensitive : List ℕ → ℕ → Option ℕ
   match_insensitive string p =
       let slice : List ℕ = drop p input in
-      if has_part slice (length string) && same_bytes same_folded string (take (length string) slice) then some (p + length string) else none
+      if has_part slice (length string) && same_bytes same_folded string (take (length string) slice) then Some (p + length string) else None
 
   abbrev pub match_range : (start end : ℕ) → ℕ → Option ℕ
   match_range start end p = past (within start end) p (decode (drop p input))
@@ -407,20 +408,20 @@ module _ (input : List ℕ) where
 
 -- The state after a match, or the same state with Err.
 abbrev pub moved : Option ℕ → ParserState → Ending ParserState
-moved none m = Err m
-moved (some p) m = Ok (set_position p m)
+moved None m = Err m
+moved (Some p) m = Ok (set_position p m)
 
 -- ── stack_push, stack_pop, stack_match_peek_slice, stack_match_pop ──
 abbrev pub in_range : ℤ → Option ℕ
-in_range (pos r) = some r
-in_range (negsuc r) = none
+in_range (pos r) = Some r
+in_range (negsuc r) = None
 
 abbrev pub normalize_index : ℤ → (len : ℕ) → Option ℕ
-normalize_index i len = if lt_z (pos len) i then none else if non_neg i then in_range i else in_range (pos len +ℤ i)
+normalize_index i len = if lt_z (pos len) i then None else if non_neg i then in_range i else in_range (pos len +ℤ i)
 
 abbrev pub normalize_end : Option ℤ → (len : ℕ) → Option ℕ
-normalize_end none len = some len
-normalize_end (some e) len = normalize_index e len
+normalize_end None len = Some len
+normalize_end (Some e) len = normalize_index e len
 
 -- `self.stack[range].iter()`, or `.rev()` of it
 abbrev pub slice : (start end : ℕ) → (top_to_bottom : Bool) → List Span → List Span
@@ -430,17 +431,17 @@ slice i j false cache = take (j - i) (drop i (reverse cache))
 module _ (input : List ℕ) where
   -- `iter.all(matcher)`
   abbrev pub all_match : List Span → ℕ → Option ℕ
-  all_match [] p = some p
-  all_match (v ∷ vs) p = elim (match_string input (as_str input v) p) [ none ↦ none | some q ↦ all_match vs q ]
+  all_match [] p = Some p
+  all_match (v ∷ vs) p = elim (match_string input (as_str input v) p) [ None ↦ None | Some q ↦ all_match vs q ]
 
   abbrev pub stack_match_peek_slice : ℤ → Option ℤ → (top_to_bottom : Bool) → ParserState → Ending ParserState
   stack_match_peek_slice i j d m =
       elim (normalize_index i (length m.stack.cache)) [
-        | none ↦ Err m
-        | some start ↦
+        | None ↦ Err m
+        | Some start ↦
             elim (normalize_end j (length m.stack.cache)) [
-              | none ↦ Err m
-              | some end ↦
+              | None ↦ Err m
+              | Some end ↦
                   elim (leb end start) [
                     | true ↦ Ok m
                     | false ↦ moved (all_match (slice start end d m.stack.cache) m.position) m
@@ -473,7 +474,7 @@ module _ (input : List ℕ) where
     abbrev pub stack_match_pop : (line : ℕ) → List Span → (position : ℕ) → ParserState → Ending ParserState
     stack_match_pop line [] p m = Ok (set_position p m)
     stack_match_pop line (x ∷ rest) p m =
-        popping line x rest m (λ n. elim (match_string input (as_str input x) p) [ none ↦ Err n | some q ↦ stack_match_pop line rest q n ])
+        popping line x rest m (λ n. elim (match_string input (as_str input x) p) [ None ↦ Err n | Some q ↦ stack_match_pop line rest q n ])
 
 -- ── The nodes, driven: closures become lines ──
 module _ (g : Setting) (bounded : Bool) where
@@ -515,7 +516,7 @@ module _ (g : Setting) (bounded : Bool) where
 
   -- Not reached: where no call may open, every entry is refused.
   abbrev pub no_deeper : Exp → ParserState → Ending ParserState
-  no_deeper e m = Err (set_call_tracker (record { current_call_limit = m.call_tracker.current_call_limit; limit_reached = some LimitKind.Stack }) m)
+  no_deeper e m = Err (set_call_tracker (record { current_call_limit = m.call_tracker.current_call_limit; limit_reached = Some LimitKind.Stack }) m)
 
   abbrev pub eval_with : (spent : ParserState → Ending ParserState) → (room : ℕ) → Exp → ParserState → Ending ParserState
   eval_with spent zero e m = level_with false no_deeper spent e m
@@ -550,12 +551,12 @@ pub data Result : Type 0 where
   Panic : Result
 
 abbrev pub error_of : Option LimitKind → ParserState → Result
-error_of (some c) m = CustomError c m.attempt_pos
-error_of none m = ParsingError (dedup (sort m.pos_attempts)) (dedup (sort m.neg_attempts)) m.attempt_pos
+error_of (Some c) m = CustomError c m.attempt_pos
+error_of None m = ParsingError (dedup (sort m.pos_attempts)) (dedup (sort m.neg_attempts)) m.attempt_pos
 
 abbrev pub pairs_of : Option LimitKind → ParserState → Result
-pairs_of (some c) m = CustomError c m.attempt_pos
-pairs_of none m = Pairs m.queue
+pairs_of (Some c) m = CustomError c m.attempt_pos
+pairs_of None m = Pairs m.queue
 
 abbrev pub result_of : Ending ParserState → Result
 result_of (Ok m) = pairs_of m.call_tracker.limit_reached m

@@ -1,10 +1,11 @@
 -- Document 01's reading: what it threads, and how each node is evaluated. pest's own state is in Pest, whose header
 -- names what it takes from here.
 use Rattle.std.specs.Prelude.{Bool, true, false, ◌&&◌, ◌||◌, not, List, [], ◌∷◌, ◌++◌, reverse, ℕ, zero, suc, ◌+◌, ◌-◌, min, ℤ, pos, negsuc, length, take, drop, eqb, ltb, leb, if◌then◌else◌}
-use Rattle.std.proofs.Math.Option.{Option, none, some}
+use Rattle.std.specs.Prelude.{Option, None, Some}
 use Rattle.matching.specs.Position as Position
 use Rattle.reading.specs.declared.parser_state.Lookahead.{Lookahead}
-use Rattle.reading.specs.declared.parser_state.Lookahead.TheVariants.{Positive, Negative, None}
+use Rattle.reading.specs.declared.parser_state.Lookahead.TheVariants.{Positive, Negative}
+use Rattle.reading.specs.declared.parser_state.Lookahead.TheVariants as Looks
 use Rattle.reading.specs.declared.parser_state.Atomicity.{Atomicity}
 use Rattle.reading.specs.declared.parser_state.Atomicity.TheVariants.{NonAtomic}
 use Rattle.reading.specs.declared.parser_state.Cause.TheVariants.{EmptyStack, TokensFull, StackFull, AttemptsFull}
@@ -68,9 +69,9 @@ initial limit = record {
   checkpoints = [];
   siblings = empty;
   outer = 0;
-  lookahead = None;
+  lookahead = Looks.None;
   atomicity = NonAtomic;
-  tracker = record { limit = limit; counted = 0; cause = none };
+  tracker = record { limit = limit; counted = 0; cause = None };
   attempts = record { furthest = 0; positive = []; negative = [] };
 }
 
@@ -100,8 +101,8 @@ abbrev pub held : State → ℕ
 held s = s.outer + size s.siblings
 
 abbrev pub is_set : Option LimitKind → Bool
-is_set none = false
-is_set (some c) = true
+is_set None = false
+is_set (Some c) = true
 
 -- "an Err that comes with a limit cause"
 abbrev pub limited : State → Bool
@@ -152,9 +153,9 @@ over (suc l) n = leb (suc l) n
 abbrev pub enter : (room counts : Bool) → Tracker → Entry
 enter room counts t =
     if is_set t.cause then refused t
-    else if counts && over t.limit t.counted then refused (record { limit = t.limit; counted = t.counted; cause = some Call })
+    else if counts && over t.limit t.counted then refused (record { limit = t.limit; counted = t.counted; cause = Some Call })
     else if room then entered (record { limit = t.limit; counted = if counts then suc t.counted else t.counted; cause = t.cause })
-    else refused (record { limit = t.limit; counted = t.counted; cause = some Stack })
+    else refused (record { limit = t.limit; counted = t.counted; cause = Some Stack })
 
 -- "A refused entry answers Err before all else in its combinator"
 abbrev pub entering : (room counts : Bool) → State → (State → Ending State) → Ending State
@@ -276,10 +277,10 @@ optional_end (Stop c) = Stop c
 abbrev pub lookahead_in : (positive : Bool) → Lookahead → Lookahead
 lookahead_in true Negative = Negative
 lookahead_in true Positive = Positive
-lookahead_in true None = Positive
+lookahead_in true Looks.None = Positive
 lookahead_in false Negative = Positive
 lookahead_in false Positive = Negative
-lookahead_in false None = Negative
+lookahead_in false Looks.None = Negative
 
 -- "Lookahead always restores position, lookahead and stack."
 abbrev pub back_to : State → State → State
@@ -313,8 +314,8 @@ restore_end s (Stop c) = Stop c
 -- ── Nodes that open no call ──
 -- A match: moved, or "A failed match moves nothing."
 abbrev pub moved : Option ℕ → State → Ending State
-moved none s = Err s
-moved (some p) s = Ok (at_position p s)
+moved None s = Err s
+moved (Some p) s = Ok (at_position p s)
 
 -- "Tag always succeeds; under lookahead None it sets the last sibling's tag, if any."
 abbrev pub tagged : ℕ → State → Ending State
@@ -322,12 +323,12 @@ tagged u s = if is_none s.lookahead then Ok (with_siblings (tag_last u s.sibling
 
 -- "an index above the height, or below minus the height, fails; a negative one counts from the height"
 abbrev pub index_in : (height : ℕ) → ℤ → Option ℕ
-index_in h (pos i) = if leb i h then some i else none
-index_in h (negsuc i) = if leb (suc i) h then some (h - suc i) else none
+index_in h (pos i) = if leb i h then Some i else None
+index_in h (negsuc i) = if leb (suc i) h then Some (h - suc i) else None
 
 abbrev pub end_in : (height : ℕ) → Option ℤ → Option ℕ
-end_in h none = some h
-end_in h (some e) = index_in h e
+end_in h None = Some h
+end_in h (Some e) = index_in h e
 
 -- "entries from start to before end", counted from the bottom, bottom up or top down
 abbrev pub entries : (start end : ℕ) → (top_down : Bool) → List Span → List Span
@@ -344,8 +345,8 @@ module _ (text : List ℕ) where
 
   -- All of the entries, one after the other.
   abbrev pub after_entries : List Span → ℕ → Option ℕ
-  after_entries [] p = some p
-  after_entries (v ∷ vs) p = elim (after_entry v p) [ none ↦ none | some q ↦ after_entries vs q ]
+  after_entries [] p = Some p
+  after_entries (v ∷ vs) p = elim (after_entry v p) [ None ↦ None | Some q ↦ after_entries vs q ]
 
   -- One entry popped, with `rest` left: "debt 1,025" stops.
   abbrev pub popping : (line : ℕ) → (rest : List Span) → State → (State → Ending State) → Ending State
@@ -363,7 +364,7 @@ module _ (text : List ℕ) where
   abbrev pub match_popped : (line : ℕ) → List Span → (p : ℕ) → State → Ending State
   match_popped line [] p s = Ok (at_position p s)
   match_popped line (v ∷ rest) p s =
-      popping line rest s (λ t. elim (after_entry v p) [ none ↦ Err t | some q ↦ match_popped line rest q t ])
+      popping line rest s (λ t. elim (after_entry v p) [ None ↦ Err t | Some q ↦ match_popped line rest q t ])
 
   -- "all or nothing moved"; "start at or past end succeeds unmoved"
   abbrev pub sliced : (start end : ℕ) → (top_down : Bool) → State → Ending State
@@ -372,8 +373,8 @@ module _ (text : List ℕ) where
   abbrev pub peeked : ℤ → Option ℤ → (top_down : Bool) → State → Ending State
   peeked i j top_down s =
       elim (index_in (length s.stack) i) [
-        | none ↦ Err s
-        | some start ↦ elim (end_in (length s.stack) j) [ none ↦ Err s | some end ↦ sliced start end top_down s ]
+        | None ↦ Err s
+        | Some start ↦ elim (end_in (length s.stack) j) [ None ↦ Err s | Some end ↦ sliced start end top_down s ]
       ]
 
 -- ── Evaluation ──
@@ -415,7 +416,7 @@ module _ (g : Setting) where
 
   -- Where no call may open, every entry is refused, and what stands here is not reached.
   abbrev pub no_deeper : Exp → State → Ending State
-  no_deeper e s = Err (with_tracker (record { limit = s.tracker.limit; counted = s.tracker.counted; cause = some Stack }) s)
+  no_deeper e s = Err (with_tracker (record { limit = s.tracker.limit; counted = s.tracker.counted; cause = Some Stack }) s)
 
   -- Evaluation where `room` more calls may be open at once.
   abbrev pub eval : (room : ℕ) → Exp → State → Ending State

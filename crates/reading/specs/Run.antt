@@ -1,6 +1,6 @@
 -- What `run` is handed, as the input of document 01's definitions, and what it promises.
 use Rattle.std.specs.Prelude.{◌≡◌, List, ℕ, ℤ}
-use Rattle.std.proofs.Math.Option.{some}
+use Rattle.std.specs.Prelude.{Some}
 use Rattle.reading.specs.Outcome.{Input, Refusal, refusal, Outcome, outcome}
 
 abbrev pub input : List ℤ → (literals text : List ℕ) → (depth_limit call_limit : ℕ) → (tokens report : List ℕ) → (scratch : ℕ) → Input
@@ -20,4 +20,4 @@ pub record Ran (i : Input) (o : Outcome) (before after : List ℕ) : Type 0 wher
   -- Number, place, count and both areas are those of document 01.
   pub is : o ≡ outcome i
   -- 4 to 9 leave "all areas", scratch too. "Scratch after a started run is free".
-  pub left : (r : Refusal) → refusal i ≡ some r → after ≡ before
+  pub left : (r : Refusal) → refusal i ≡ Some r → after ≡ before

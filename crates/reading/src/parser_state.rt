@@ -2,7 +2,7 @@
 // ends.
 
 // The current lookahead status (pest's `Lookahead`).
-#[derive(Clone, Copy)]
+#[derive(Clone, Copy, PartialEq, Eq, Debug)]
 pub enum Lookahead {
     Positive,
     Negative,
@@ -10,7 +10,7 @@ pub enum Lookahead {
 }
 
 // The current atomicity (pest's `Atomicity`).
-#[derive(Clone, Copy)]
+#[derive(Clone, Copy, PartialEq, Eq, Debug)]
 pub enum Atomicity {
     Atomic,
     CompoundAtomic,
@@ -27,6 +27,7 @@ pub enum Cause {
 }
 
 // "Evaluation ends Ok, Err, or in a stop that names its cause." The state that Ok and Err left stands where it was lent.
+// Kept: three cases, and no Result: document 01 names this form, an ending enum whose stop holds the cause enum with its line.
 #[derive(Clone, Copy)]
 pub enum Ending {
     Ok,

@@ -1,132 +1,146 @@
-// A record of the list: a row of 16-bit words, low byte first. Every read is total, so a damaged list can only disagree.
-ghost use Rattle.std.specs.Prelude.{◌≤◌, ◌<◌, length};
+// A record of the list: a case, and the answer that is recorded.
+use crate::answer::{Answer, Difference, FILL, Numbers};
+use crate::words::{Fault, Input, Words};
+use engine::state::run;
+use std::alloc::{AllocError, Global};
 
-// The row that a record begins with: rust/README.md has the table.
-pub(crate) const RUNNING: usize = 1;
+// The lengths of the areas.
+#[derive(Clone, Copy)]
+struct Lengths {
+    tokens: usize,
+    report: usize,
+    scratch: usize,
+}
 
-pub(crate) const NUMBER: usize = 2;
+// What a record says, before its lists: rust/README.md has the table.
+#[derive(Clone, Copy)]
+struct Head {
+    running: u32,
+    numbers: Numbers,
+    depth_limit: u32,
+    call_limit: u32,
+    areas: Lengths,
+    nodes: Input,
+    literals: Input,
+    text: Input,
+    positives: u32,
+    negatives: u32,
+}
 
-pub(crate) const PLACE: usize = 3;
+#[derive(Drop)]
+struct Record {
+    head: Head,
+    nodes: Vec<i32>,
+    literals: Vec<u8>,
+    text: Vec<u8>,
+    answer: Answer,
+}
 
-pub(crate) const COUNT: usize = 4;
+impl Head {
+    fn of(words: &mut Words<'_>) -> Result<Self, Fault> {
+        Ok(Head {
+            running: words.number()?,
+            numbers: Numbers {
+                number: words.number()?,
+                place: words.number()?,
+                count: words.number()?,
+            },
+            depth_limit: words.long()?,
+            call_limit: words.long()?,
+            areas: Lengths {
+                tokens: words.length()?,
+                report: words.length()?,
+                scratch: words.length()?,
+            },
+            nodes: Input {
+                given: words.length()?,
+                length: words.length()?,
+            },
+            literals: Input {
+                given: words.length()?,
+                length: words.long()? as usize,
+            },
+            text: Input {
+                given: words.length()?,
+                length: words.long()? as usize,
+            },
+            positives: words.number()?,
+            negatives: words.number()?,
+        })
+    }
 
-pub(crate) const DEPTH_LIMIT: usize = 5;
+    // What both areas hold after the run follows from the number and the lists that end the record.
+    fn answer(self, alloc: Global, lists: Vec<u32>) -> Result<Answer, AllocError> {
+        let none = Vec::new(alloc);
+        let (mut tokens, mut report) = match self.numbers.number {
+            0 => (lists, none),
+            10 => {
+                let counts = [self.numbers.place, self.positives, self.negatives];
+                (none, [counts.as_slice(), lists.as_slice()].concat(alloc)?)
+            }
+            _ => (none, Vec::new(alloc)),
+        };
+        let rest = if self.numbers.is_refusal() { FILL } else { 0 };
+        tokens.resize(self.areas.tokens, rest)?;
+        report.resize(self.areas.report, rest)?;
+        Ok(Answer {
+            numbers: self.numbers,
+            tokens,
+            report,
+        })
+    }
+}
 
-pub(crate) const CALL_LIMIT: usize = 7;
-
-pub(crate) const TOKENS: usize = 9;
-
-pub(crate) const REPORT: usize = 10;
-
-pub(crate) const SCRATCH: usize = 11;
-
-pub(crate) const NODES_GIVEN: usize = 12;
-
-pub(crate) const NODES: usize = 13;
-
-pub(crate) const LITERALS_GIVEN: usize = 14;
-
-pub(crate) const LITERALS: usize = 15;
-
-pub(crate) const TEXT_GIVEN: usize = 17;
-
-pub(crate) const TEXT: usize = 18;
-
-pub(crate) const POSITIVES: usize = 20;
-
-pub(crate) const NEGATIVES: usize = 21;
-
-pub(crate) const HEAD: usize = 22;
-
-// Stands for a node number that one word does not hold.
-const WIDE: u32 = 32768;
-
-// A place further on. No list reaches the bound: it is there so that a sum never wraps.
-pub(crate) fn after(at: usize, more: usize) -> usize {
-    if at < 1000000 {
-        if more < 1000000 {
-            return at + more;
+impl Record {
+    fn of(alloc: Global, record: &[u16]) -> Result<Self, Fault> {
+        let mut words = Words(record);
+        if words.length()? != record.len() {
+            return Err(Fault::NotWhole);
         }
+        let head = Head::of(&mut words)?;
+        Ok(Record {
+            nodes: words.nodes(alloc, head.nodes)?,
+            literals: words.bytes(alloc, head.literals)?,
+            text: words.bytes(alloc, head.text)?,
+            answer: head.answer(alloc, words.numbers(alloc)?)?,
+            head,
+        })
     }
-    at
-}
 
-fn joined(low: u8, high: u8) -> u32
-    ensures { result ≤ 65535 }
-{
-    low as u32 + high as u32 * 256
-}
-
-// Word `at`; 0 behind the end.
-pub(crate) fn word(record: &[u8], at: usize) -> u32
-    ensures { result ≤ 65535 }
-{
-    if at < record.len() / 2 {
-        return joined(record[at * 2], record[at * 2 + 1]);
+    // Runs the case, in areas of just its lengths.
+    fn run(&self, alloc: Global) -> Result<Answer, AllocError> {
+        let lengths = self.head.areas;
+        let mut tokens = vec![in alloc; FILL; lengths.tokens]?;
+        let mut report = vec![in alloc; FILL; lengths.report]?;
+        let mut scratch = vec![in alloc; 0; lengths.scratch]?;
+        let outcome = run(
+            self.nodes.as_slice(),
+            self.literals.as_slice(),
+            self.text.as_slice(),
+            self.head.depth_limit,
+            self.head.call_limit,
+            tokens.as_mut_slice(),
+            report.as_mut_slice(),
+            scratch.as_mut_slice(),
+        );
+        Ok(Answer {
+            numbers: outcome.into(),
+            tokens,
+            report,
+        })
     }
-    0
 }
 
-pub(crate) fn length_at(record: &[u8], at: usize) -> usize
-    ensures { result ≤ 65535 }
-{
-    word(record, at) as usize
-}
-
-// Two words, the low one first.
-pub(crate) fn pair(record: &[u8], at: usize) -> u32 {
-    word(record, at) + word(record, after(at, 1)) * 65536
-}
-
-pub(crate) fn long_at(record: &[u8], at: usize) -> usize {
-    pair(record, at) as usize
-}
-
-// -1 - n.
-fn negative(n: u32) -> i32
-    requires { n < 2147483648 }
-{
-    -1 - n as i32
-}
-
-// The signed number that two words stand for.
-fn wide(n: u32) -> i32 {
-    if n < 2147483648 {
-        return n as i32;
+// Runs a recorded case and holds what came against what is recorded.
+pub(crate) fn replay(alloc: Global, record: &[u16]) -> Result<(), Fault> {
+    let record = Record::of(alloc, record)?;
+    let came = record.run(alloc)?;
+    if came == record.answer {
+        return Ok(());
     }
-    negative(4294967295 - n)
-}
-
-// The node number at a place: one word, or the mark and two words.
-pub(crate) fn number(record: &[u8], at: usize) -> i32 {
-    let n = word(record, at);
-    if n == WIDE {
-        return wide(pair(record, after(at, 1)));
-    }
-    if n < WIDE {
-        return n as i32;
-    }
-    negative(65535 - n)
-}
-
-// The place behind that number.
-pub(crate) fn behind(record: &[u8], at: usize) -> usize {
-    if word(record, at) == WIDE {
-        return after(at, 3);
-    }
-    after(at, 1)
-}
-
-// Byte i of those that start at word `at`, two a word; 0 behind the end.
-pub(crate) fn byte(record: &[u8], at: usize, i: usize) -> u8 {
-    let j = after(after(at, at), i);
-    if j < record.len() { record[j] } else { 0 }
-}
-
-// Where the record that starts at byte `at` ends; 0 where the file does not hold it whole.
-pub(crate) fn end_of(file: &[u8], at: usize) -> usize
-    ensures { result ≤ length file.now }
-{
-    let end = after(at, length_at(file, at / 2) * 2);
-    if end <= file.len() { end } else { 0 }
+    Err(Fault::Differs(Difference {
+        running: record.head.running,
+        recorded: record.answer.numbers,
+        came: came.numbers,
+    }))
 }

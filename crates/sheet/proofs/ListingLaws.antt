@@ -4,17 +4,19 @@ use Prim.Native.Nat.{ℕ, zero, suc, ◌+◌, ◌-◌, ◌*◌, ◌/◌, ◌%◌
 use native.Mathlib.Omega.{arith}
 use native.Mathlib.Numerals.{add-one}
 use mathlib.Core.Path.{◌≡◌, refl, sym, ap, ◌∙◌}
-use mathlib.Core.Bool.{false, cond}
+use mathlib.Core.Bool.{false}
 use mathlib.Core.List.{List, [], ◌∷◌, ◌++◌, append_assoc, append-nil}
+use native.Mathlib.Nat.{pow-suc}
+use Rattle.std.specs.Prelude.{Option, None, Some, IfNone, IfSome, unwrap_or, ◌^◌}
 use lib.Dec.{ltb}
-use lib.ListN.{length, get_or, take, drop, set, replicate, length-append, length-set, length-replicate, take-append-drop}
-use lib.Seq.{length-take-le, sets, length-sets, set_comm, take-suc, take_all}
+use lib.ListN.{length, get_or, take, drop, set, replicate, length-append, length-drop, length-set, length-replicate, take-append-drop}
+use lib.Seq.{length-take-le, drop-drop, sets, sets-eq, length-sets, set_comm, take-suc, take_all}
 use borrow.Author.Tests.{lt-ltb, le-ltb, le-leb, lt-leb, eq-eqb, ne_eqb}
-use Rattle.engine.specs.declared.state.Outcome.{Outcome}
 use Rattle.sheet.specs.Area.{over}
 use Rattle.sheet.specs.Numeral.{numeral, justified}
-use Rattle.sheet.specs.Listing.{six, fields, line_text, token_line, rule_line, later_line, later_count, whole, Written}
+use Rattle.sheet.specs.Listing.{six, fields, line_text, token_line, rule_line, later_line, whole, Written}
 use Rattle.sheet.proofs.NumeralLaws.{numeral_digit, numeral_tens, leads}
+use Rattle.sheet.proofs.FieldLaws.{pow_some}
 use Rattle.sheet.proofs.SheetLaws.{over_more, over_none, over_length}
 
 -- runs of stores
@@ -42,6 +44,19 @@ shorter n h = rw (numeral_tens n h) (simp length-append)
 
 pub one_digit : (n : ℕ) → n < 10 → length (numeral n) ≡ 1
 one_digit n h = rw (numeral_digit n h)
+
+pub numeral_length : (k n : ℕ) → 10 ^ k ≤ n → n < 10 * 10 ^ k → length (numeral n) ≡ k + 1
+numeral_length zero n h l = one_digit n (omega arith)
+numeral_length (suc k) n h l =
+    let p : 10 ^ suc k ≡ 10 ^ k * 10 = pow-suc 10 k in
+    let s : 1 ≤ 10 ^ k = pow_some k in
+    omega (arith, shorter n (omega arith), numeral_length k (n / 10) (omega arith) (omega arith))
+
+pub digits_counted :
+    (n : ℕ) (o : Option ℕ) → IfNone o (n ≡ 0) → IfSome o (λ k. 10 ^ k ≤ n) → IfSome o (λ k. n < 10 * 10 ^ k) →
+    unwrap_or o 0 + 1 ≡ length (numeral n)
+digits_counted n None e h l = sym (one_digit n (omega arith))
+digits_counted n (Some k) e h l = sym (numeral_length k n h l)
 
 -- the digits of n behind those of `rest` are written from i to the end
 pub record Spelt (n rest end i : ℕ) (before area : List ℕ) : Type 0 where
@@ -81,45 +96,30 @@ module _ (n rest end i : ℕ) (before area : List ℕ) (s : Spelt n rest end i b
         let f : numeral n ≡ x ∷ s.tail = s.text ∙ rw (numeral_digit rest l, e) in
         (rw (s.wrote, f) (sets_before s.tail before i x (spelt_some h)), rw f (omega (arith, s.place, spelt_some h)))
 
--- spaces are written from i to the end
-pub record Blank (from to i : ℕ) (before area : List ℕ) : Type 0 where
-  pub low : from ≤ i
-  pub high : i ≤ to
-  pub wrote : area ≡ sets before i (replicate (to - i) 32)
-
-pub blank_none : (from to : ℕ) (before : List ℕ) → from ≤ to → Blank from to to before before
-blank_none from to before h =
-    let e : to - to ≡ 0 = omega arith in
-    record { low = h; high = omega arith; wrote = rw e }
-
-module _ (from to i : ℕ) (before area : List ℕ) (s : Blank from to i before area) where
-  pub blank_length : length area ≡ length before
-  blank_length = rw s.wrote (length-sets before i (replicate (to - i) 32))
-
-  pub blank_more : from < i → Blank from to (i - 1) before (set area (i - 1) 32)
-  blank_more h =
-      let e : to - (i - 1) ≡ suc (to - i) = omega (arith, s.high) in
-      record { low = omega arith; high = omega (arith, s.high); wrote = rw (s.wrote, e) (sets_before (replicate (to - i) 32) before i 32 (omega arith)) }
-
-  pub blank_all : i ≤ from → area ≡ sets before from (replicate (to - from) 32)
-  blank_all h = let e : i ≡ from = omega (arith, s.low) in rw (← e) s.wrote
-
 -- a field
 pub six_length : (n : ℕ) → length (six n) ≡ 6 - length (numeral n) + length (numeral n)
 unfolding six justified
 six_length n = simp (length-append, length-replicate)
 
+-- spaces from `at` on, and the numeral behind them
 pub six_put :
-    (n k p : ℕ) (l m after : List ℕ) (at r : ℕ) → k ≡ length (numeral n) → p ≡ 6 - k → m ≡ sets l at (replicate (at + p - at) 32) →
-    after ≡ sets m r (numeral n) → r + length (numeral n) ≡ at + p + k →
-    (after ≡ sets l at (six n)) × (at + p + k ≡ at + length (six n))
+    (n w k : ℕ) (l new after : List ℕ) (at r : ℕ) → w ≡ length (six n) → k ≡ length (numeral n) → at + w ≤ length l →
+    new ≡ replicate (length (take (at + w - k - at) (drop at l))) 32 →
+    after ≡ sets (take at l ++ (new ++ drop (at + w - k - at) (drop at l))) r (numeral n) → r + length (numeral n) ≡ at + w →
+    after ≡ sets l at (six n)
 unfolding six justified
-six_put n k p l m after at r ek ep em ea er =
-    let g : r ≡ at + (6 - length (numeral n)) = omega arith in
-    let h : at + p - at ≡ 6 - length (numeral n) = omega arith in (
-      rw (ea, em, g, h, sets_append (replicate (6 - length (numeral n)) 32) (numeral n) l at, length-replicate {A = ℕ} (6 - length (numeral n)) 32),
-      omega (arith, six_length n),
-    )
+six_put n w k l new after at r ew ek h en ea er =
+    let p : ℕ = 6 - length (numeral n) in
+    let g : r ≡ at + p = omega (arith, six_length n) in
+    let e : at + w - k - at ≡ p = omega (arith, six_length n) in
+    let j : length (take (at + w - k - at) (drop at l)) ≡ p =
+    length-take-le (at + w - k - at) (drop at l) (simp length-drop (omega (arith, six_length n))) ∙ e in
+    let m : at + p ≤ length l = omega (arith, six_length n) in
+    let b : sets l at (replicate p 32) ≡ take at l ++ replicate p 32 ++ drop (at + p) l =
+    sets-eq (replicate p 32) l at (omega (arith, length-replicate {A = ℕ} p 32)) ∙ rw (length-replicate {A = ℕ} p 32) in
+    let c : take at l ++ (new ++ drop (at + w - k - at) (drop at l)) ≡ sets l at (replicate p 32) =
+    rw (en, j, e, drop-drop p at l) (sym (b ∙ append_assoc (take at l) (replicate p 32) (drop (at + p) l))) in
+    ea ∙ rw (c, g, sets_append (replicate p 32) (numeral n) l at, length-replicate {A = ℕ} p 32)
 
 -- the fields of the first numbers
 fields_append : (a b : List ℕ) → fields (a ++ b) ≡ fields a ++ fields b
@@ -246,34 +246,6 @@ module _ (n : ℕ) (tokens report : List ℕ) (k : ℕ) where
   unfolding later_line
   later_rule z = rw (ne_eqb _ _ z)
 
-module _ (o : Outcome) where
-  pub count_tokens : o.number ≡ 0 → o.count ≡ later_count o
-  unfolding later_count
-  count_tokens e = rw (eq-eqb _ _ e)
-
-  module _ (z : o.number ≡ 0 → ⊥) where
-    pub count_rules : o.number ≡ 10 → o.count ≡ later_count o
-    unfolding later_count
-    count_rules e = rw (ne_eqb _ _ z, eq-eqb _ _ e)
-
-    pub count_none : (o.number ≡ 10 → ⊥) → 0 ≡ later_count o
-    unfolding later_count
-    count_none y = rw (ne_eqb _ _ z, ne_eqb _ _ y)
-
 -- another name for the text
 pub renamed : (t u before after : List ℕ) (r : ℕ) → t ≡ u → Written (whole before u) before after r → Written (whole before t) before after r
 renamed t u before after r e w = rw e w
-
-pub token_is :
-    (t : List ℕ) (k a b c d e : ℕ) → a ≡ get_or t (k * 5) 0 → b ≡ get_or t (k * 5 + 1) 0 → c ≡ get_or t (k * 5 + 2) 0 →
-    d ≡ get_or t (k * 5 + 3) 0 → e ≡ get_or t (k * 5 + 4) 0 → token_line t k ≡ k ∷ a ∷ b ∷ c ∷ d ∷ e ∷ []
-token_is t k a b c d e ea eb ec ed ee = rw (ea, eb, ec, ed, ee)
-
-pub rule_is : (p : List ℕ) (k a b : ℕ) → a ≡ cond (ltb k (get_or p 1 0)) 1 2 → b ≡ get_or p (k + 3) 0 → rule_line p k ≡ a ∷ b ∷ []
-rule_is p k a b ea eb = rw (ea, eb)
-
-pub sign_positive : (k p q : ℕ) → p ≡ q → k < p → ◌≡◌ {A = ℕ} 1 (cond (ltb k q) 1 2)
-sign_positive k p q e h = rw (← e, lt-ltb k p h)
-
-pub sign_negative : (k p q : ℕ) → p ≡ q → p ≤ k → ◌≡◌ {A = ℕ} 2 (cond (ltb k q) 1 2)
-sign_negative k p q e h = rw (← e, le-ltb k p h)

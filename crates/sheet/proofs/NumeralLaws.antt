@@ -5,7 +5,9 @@ use native.Mathlib.Omega.{arith}
 use mathlib.Core.Path.{◌≡◌, refl, sym, ap, ◌∙◌}
 use mathlib.Core.Bool.{Bool, true, false, cond, ◌&&◌}
 use mathlib.Core.List.{List, [], ◌∷◌, ◌++◌, append_assoc, append-nil}
-use mathlib.Core.Option.{Option, none, some, some-injective}
+use Rattle.std.specs.Prelude.{Option, None, Some}
+use Rattle.std.proofs.lemmas.Bool.{and_parts}
+use Rattle.std.proofs.lemmas.Option.{cond_some, none-some, same_Some}
 use lib.Dec.{ltb, leb, eqb}
 use lib.IntN.{ℤ, pos, negsuc}
 use lib.ListN.{length, get_or, replicate, length-append, length-replicate, get_or-append}
@@ -17,20 +19,17 @@ use Rattle.sheet.specs.Numeral.{spelled, numeral, signed_numeral, justified, fie
 use Rattle.sheet.proofs.FieldLaws.{then_some, digit_small}
 
 -- one digit
-pub digit_of : (d : ℕ) → d < 10 → digit (48 + d) ≡ some d
+pub digit_of : (d : ℕ) → d < 10 → digit (48 + d) ≡ Some d
 unfolding digit
 digit_of d h =
     let e : 48 + d - 48 ≡ d = omega arith in
     rw (le-leb 48 (48 + d) (omega arith), le-leb (48 + d) 57 (omega arith), e)
 
-digit_byte : (b d : ℕ) → digit b ≡ some d → b ≡ 48 + d
+digit_byte : (b d : ℕ) → digit b ≡ Some d → b ≡ 48 + d
 unfolding digit
-digit_byte b d e = go (leb 48 b) (leb b 57) refl refl e
-  where
-    go : (x y : Bool) → leb 48 b ≡ x → leb b 57 ≡ y → ◌≡◌ {A = Option ℕ} (cond (x && y) (some (b - 48)) none) (some d) → b ≡ 48 + d
-    go true true p q r = let k : b - 48 ≡ d = cc in omega (arith, leb-true 48 b p)
-    go true false p q r = let z : ◌≡◌ {A = ℕ} 0 1 = cc in absurd (omega arith)
-    go false y p q r = let z : ◌≡◌ {A = ℕ} 0 1 = cc in absurd (omega arith)
+digit_byte b d e =
+    let p = cond_some (leb 48 b && leb b 57) (b - 48) d e in
+    omega (arith, p.1, leb-true 48 b (and_parts (leb 48 b) (leb b 57) p.0).0)
 
 -- how many digits are allowed does not matter, once they are enough
 enough : (k m n : ℕ) → n < k → n < m → spelled k n ≡ spelled m n
@@ -94,48 +93,48 @@ unfolding numeral
 leads n = leads_by (suc n) n (omega arith)
 
 -- reading a numeral
-decimal_more : (s : List ℕ) (a m d : ℕ) → d < 10 → decimal a s ≡ some m → decimal a (s ++ ((48 + d) ∷ [])) ≡ some (m * 10 + d)
+decimal_more : (s : List ℕ) (a m d : ℕ) → d < 10 → decimal a s ≡ Some m → decimal a (s ++ ((48 + d) ∷ [])) ≡ Some (m * 10 + d)
 unfolding decimal
-decimal_more [] a m d h e = let k : a ≡ m = some-injective a m e in rw (digit_of d h, k)
+decimal_more [] a m d h e = let k : a ≡ m = same_Some a m e in rw (digit_of d h, k)
 decimal_more (b ∷ s) a m d h e =
     let p = then_some (digit b) _ _ e in
     rw p.1 (decimal_more s (a * 10 + p.0) m d h p.2)
 
-decimal_by : (k n : ℕ) → n < k → decimal 0 (spelled k n) ≡ some n
+decimal_by : (k n : ℕ) → n < k → decimal 0 (spelled k n) ≡ Some n
 unfolding spelled decimal
 decimal_by zero n h = absurd (omega arith)
 decimal_by (suc k) n h = go (ltb n 10) refl (λ t. decimal_by k (n / 10) (omega arith))
   where
     go :
-        (b : Bool) → ltb n 10 ≡ b → (10 ≤ n → decimal 0 (spelled k (n / 10)) ≡ some (n / 10)) →
-        decimal 0 (cond b ((48 + n) ∷ []) (spelled k (n / 10) ++ ((48 + n % 10) ∷ []))) ≡ some n
-    go true e f = rw (digit_of n (ltb-true n 10 e)) (ap some (omega arith))
+        (b : Bool) → ltb n 10 ≡ b → (10 ≤ n → decimal 0 (spelled k (n / 10)) ≡ Some (n / 10)) →
+        decimal 0 (cond b ((48 + n) ∷ []) (spelled k (n / 10) ++ ((48 + n % 10) ∷ []))) ≡ Some n
+    go true e f = rw (digit_of n (ltb-true n 10 e)) (ap Some (omega arith))
     go false e f =
         let t = ltb-false n 10 e in
-        decimal_more (spelled k (n / 10)) 0 (n / 10) (n % 10) (omega arith) (f t) ∙ ap some (omega arith)
+        decimal_more (spelled k (n / 10)) 0 (n / 10) (n % 10) (omega arith) (f t) ∙ ap Some (omega arith)
 
-natural_by : (s : List ℕ) (n : ℕ) → 0 < n → Leads n s → decimal 0 s ≡ some n → natural s ≡ some n
+natural_by : (s : List ℕ) (n : ℕ) → 0 < n → Leads n s → decimal 0 s ≡ Some n → natural s ≡ Some n
 unfolding natural
 natural_by [] n h l e = absurd (omega (arith, l.some_digit))
 natural_by (b ∷ []) n h l e = e
 natural_by (b ∷ c ∷ s) n h l e = rw (ne_eqb b 48 (λ z. omega (arith, l.nonzero h))) e
 
-pub natural_numeral : (n : ℕ) → natural (numeral n) ≡ some n
+pub natural_numeral : (n : ℕ) → natural (numeral n) ≡ Some n
 unfolding numeral natural spelled
 natural_numeral zero = decimal_by 1 0 (omega arith)
 natural_numeral (suc n) = natural_by (spelled (suc (suc n)) (suc n)) (suc n) (omega arith) (leads (suc n)) (decimal_by (suc (suc n)) (suc n) (omega arith))
 
-positive_small : (n : ℕ) → n < 2147483648 → positive (some n) ≡ some (pos n)
+positive_small : (n : ℕ) → n < 2147483648 → positive (Some n) ≡ Some (pos n)
 positive_small n h = rw (lt-ltb n 2147483648 h)
 
-negative_small : (n : ℕ) → n < 2147483648 → negative (some (suc n)) ≡ some (negsuc n)
+negative_small : (n : ℕ) → n < 2147483648 → negative (Some (suc n)) ≡ Some (negsuc n)
 negative_small n h = rw (lt-ltb n 2147483648 h)
 
 signed_digits : (s : List ℕ) (n : ℕ) → Leads n s → signed s ≡ positive (natural s)
 signed_digits [] n l = absurd (omega (arith, l.some_digit))
 signed_digits (b ∷ s) n l = rw (ne_eqb b 45 (λ z. omega (arith, l.low)))
 
-signed_back : (v : ℤ) → SFits w32 v → signed (signed_numeral v) ≡ some v
+signed_back : (v : ℤ) → SFits w32 v → signed (signed_numeral v) ≡ Some v
 unfolding signed_numeral
 signed_back (pos n) f = signed_digits (numeral n) n (leads n) ∙ ap positive (natural_numeral n) ∙ positive_small n f.sfits
 signed_back (negsuc n) f = ap negative (natural_numeral (suc n)) ∙ negative_small n f.sfits
@@ -157,42 +156,36 @@ starts (pos n) = no_spaces (numeral n) n (leads n)
 starts (negsuc n) = refl
 
 -- What is written is read back, in every field that holds it.
-pub read_written : (w : ℕ) (v : ℤ) (t : List ℕ) → SFits w32 v → field_text w v ≡ some t → (field t ≡ some v) × (length t ≡ w)
+pub read_written : (w : ℕ) (v : ℤ) (t : List ℕ) → SFits w32 v → field_text w v ≡ Some t → (field t ≡ Some v) × (length t ≡ w)
 unfolding field field_text justified
-read_written w v t f e = go (leb (length (signed_numeral v)) w) refl e
-  where
-    go :
-        (b : Bool) → leb (length (signed_numeral v)) w ≡ b → cond b (some (justified w (signed_numeral v))) none ≡ some t →
-        (field t ≡ some v) × (length t ≡ w)
-    go true h e =
-        let k : justified w (signed_numeral v) ≡ t = some-injective _ _ e in
-        let l = leb-true (length (signed_numeral v)) w h in (
-          rw (← k, spaces_passed (w - length (signed_numeral v)) (signed_numeral v), starts v) (signed_back v f),
-          rw (← k) (simp (length-append, length-replicate) (omega arith)),
-        )
-    go false h e = let z : ◌≡◌ {A = ℕ} 0 1 = cc in absurd (omega arith)
+read_written w v t f e =
+    let p = cond_some (leb (length (signed_numeral v)) w) (justified w (signed_numeral v)) t e in
+    let l = leb-true (length (signed_numeral v)) w p.0 in (
+      rw (← p.1, spaces_passed (w - length (signed_numeral v)) (signed_numeral v), starts v) (signed_back v f),
+      rw (← p.1) (simp (length-append, length-replicate) (omega arith)),
+    )
 
 -- writing what was read
-decimal_spelled : (s : List ℕ) (a n : ℕ) → 0 < a → decimal a s ≡ some n → numeral n ≡ numeral a ++ s
+decimal_spelled : (s : List ℕ) (a n : ℕ) → 0 < a → decimal a s ≡ Some n → numeral n ≡ numeral a ++ s
 unfolding decimal
-decimal_spelled [] a n h e = let k : a ≡ n = some-injective a n e in rw (k, append-nil (numeral n))
+decimal_spelled [] a n h e = let k : a ≡ n = same_Some a n e in rw (k, append-nil (numeral n))
 decimal_spelled (b ∷ s) a n h e =
     let p = then_some (digit b) _ _ e in
     let d = digit_small b p.0 p.1 in
     decimal_spelled s (a * 10 + p.0) n (omega arith) p.2
     ∙ rw (numeral_more a p.0 h d, append_assoc, ← digit_byte b p.0 p.1)
 
-natural_spelled : (s : List ℕ) (n : ℕ) → natural s ≡ some n → numeral n ≡ s
+natural_spelled : (s : List ℕ) (n : ℕ) → natural s ≡ Some n → numeral n ≡ s
 unfolding natural decimal
-natural_spelled [] n e = let z : ◌≡◌ {A = ℕ} 0 1 = cc in absurd (omega arith)
+natural_spelled [] n e = absurd (none-some n e)
 natural_spelled (b ∷ []) n e =
     let p = then_some (digit b) _ _ e in
-    let k : n ≡ p.0 = sym (some-injective _ _ p.2) ∙ omega arith in
+    let k : n ≡ p.0 = sym (same_Some _ _ p.2) ∙ omega arith in
     rw (k, numeral_digit p.0 (digit_small b p.0 p.1), ← digit_byte b p.0 p.1)
 natural_spelled (b ∷ c ∷ s) n e = go (eqb b 48) refl e
   where
-    go : (x : Bool) → eqb b 48 ≡ x → ◌≡◌ {A = Option ℕ} (cond x none (decimal 0 (b ∷ c ∷ s))) (some n) → numeral n ≡ b ∷ c ∷ s
-    go true h e = let z : ◌≡◌ {A = ℕ} 0 1 = cc in absurd (omega arith)
+    go : (x : Bool) → eqb b 48 ≡ x → ◌≡◌ {A = Option ℕ} (cond x None (decimal 0 (b ∷ c ∷ s))) (Some n) → numeral n ≡ b ∷ c ∷ s
+    go true h e = absurd (none-some n e)
     go false h e =
         let p = then_some (digit b) _ _ e in
         let q = digit_byte b p.0 p.1 in
@@ -200,31 +193,21 @@ natural_spelled (b ∷ c ∷ s) n e = go (eqb b 48) refl e
         let m : 0 < p.0 = omega (arith, eqb-false b 48 h) in
         decimal_spelled (c ∷ s) p.0 n m (rw k at p.2) ∙ rw (numeral_digit p.0 (digit_small b p.0 p.1), ← q)
 
-of_positive : (o : Option ℕ) (v : ℤ) → positive o ≡ some v → (n : ℕ) × (o ≡ some n) × (v ≡ pos n)
-of_positive none v e = let z : ◌≡◌ {A = ℕ} 0 1 = cc in absurd (omega arith)
-of_positive (some n) v e = go (ltb n 2147483648) e
-  where
-    go : (b : Bool) → ◌≡◌ {A = Option ℤ} (cond b (some (pos n)) none) (some v) → (m : ℕ) × (◌≡◌ {A = Option ℕ} (some n) (some m)) × (v ≡ pos m)
-    go true e = (n, refl, cc)
-    go false e = let z : ◌≡◌ {A = ℕ} 0 1 = cc in absurd (omega arith)
+of_positive : (o : Option ℕ) (v : ℤ) → positive o ≡ Some v → (n : ℕ) × (o ≡ Some n) × (v ≡ pos n)
+of_positive None v e = absurd (none-some v e)
+of_positive (Some n) v e = (n, refl, sym (cond_some (ltb n 2147483648) (pos n) v e).1)
 
-of_negative : (o : Option ℕ) (v : ℤ) → negative o ≡ some v → (n : ℕ) × (o ≡ some (suc n)) × (v ≡ negsuc n)
-of_negative none v e = let z : ◌≡◌ {A = ℕ} 0 1 = cc in absurd (omega arith)
-of_negative (some zero) v e = let z : ◌≡◌ {A = ℕ} 0 1 = cc in absurd (omega arith)
-of_negative (some (suc n)) v e = go (ltb n 2147483648) e
-  where
-    go :
-        (b : Bool) → ◌≡◌ {A = Option ℤ} (cond b (some (negsuc n)) none) (some v) →
-        (m : ℕ) × (◌≡◌ {A = Option ℕ} (some (suc n)) (some (suc m))) × (v ≡ negsuc m)
-    go true e = (n, refl, cc)
-    go false e = let z : ◌≡◌ {A = ℕ} 0 1 = cc in absurd (omega arith)
+of_negative : (o : Option ℕ) (v : ℤ) → negative o ≡ Some v → (n : ℕ) × (o ≡ Some (suc n)) × (v ≡ negsuc n)
+of_negative None v e = absurd (none-some v e)
+of_negative (Some zero) v e = absurd (none-some v e)
+of_negative (Some (suc n)) v e = (n, refl, sym (cond_some (ltb n 2147483648) (negsuc n) v e).1)
 
-signed_spelled : (u : List ℕ) (v : ℤ) → signed u ≡ some v → signed_numeral v ≡ u
+signed_spelled : (u : List ℕ) (v : ℤ) → signed u ≡ Some v → signed_numeral v ≡ u
 unfolding signed_numeral
-signed_spelled [] v e = let z : ◌≡◌ {A = ℕ} 0 1 = cc in absurd (omega arith)
+signed_spelled [] v e = absurd (none-some v e)
 signed_spelled (b ∷ s) v e = go (eqb b 45) refl e
   where
-    go : (x : Bool) → eqb b 45 ≡ x → cond x (negative (natural s)) (positive (natural (b ∷ s))) ≡ some v → signed_numeral v ≡ b ∷ s
+    go : (x : Bool) → eqb b 45 ≡ x → cond x (negative (natural s)) (positive (natural (b ∷ s))) ≡ Some v → signed_numeral v ≡ b ∷ s
     go true h e =
         let p = of_negative (natural s) v e in
         rw (p.2, natural_spelled s (suc p.0) p.1, eqb-true b 45 h)
@@ -257,12 +240,12 @@ padded (b ∷ t) = go (eqb b 32) refl (padded t)
     go false h p = padded_none (b ∷ t)
 
 -- A field that reads as v has the text that is written for v: each number has one text in a field of each width.
-pub written_read : (t : List ℕ) (v : ℤ) → field t ≡ some v → field_text (length t) v ≡ some t
+pub written_read : (t : List ℕ) (v : ℤ) → field t ≡ Some v → field_text (length t) v ≡ Some t
 unfolding field field_text justified
 written_read t v e =
     let p = padded t in
     let q = signed_spelled (behind_spaces t) v e in
     rw (q, le-leb _ _ p.fewer, p.whole)
 
-pub one_text : (t u : List ℕ) (v : ℤ) → length t ≡ length u → field t ≡ some v → field u ≡ some v → t ≡ u
-one_text t u v l e f = some-injective t u (sym (written_read t v e) ∙ rw l (written_read u v f))
+pub one_text : (t u : List ℕ) (v : ℤ) → length t ≡ length u → field t ≡ Some v → field u ≡ Some v → t ≡ u
+one_text t u v l e f = same_Some t u (sym (written_read t v e) ∙ rw l (written_read u v f))

@@ -1,86 +1,65 @@
 -- The definitions of specs/Sheet.antt taken one line at a time: line i stands at byte i * 41, and what lies behind it is the rest of
 -- the lines. Then an area that is written from its start, and a line by its four fields.
-use Prim.Native.Nat.{ℕ, zero, suc, ◌+◌, ◌-◌, ◌*◌, ◌%◌, ◌≤◌, ◌<◌}
+use Prim.Native.Nat.{ℕ, zero, suc, ◌+◌, ◌*◌, ◌%◌, ◌≤◌, ◌<◌}
 use native.Mathlib.Omega.{arith}
 use native.Mathlib.Numerals.{add-one}
 use mathlib.Core.Path.{◌≡◌, refl, sym, ap, ◌∙◌}
 use mathlib.Core.Bool.{Bool, true, false, cond, ◌&&◌}
 use mathlib.Core.List.{List, [], ◌∷◌, ◌++◌, append_assoc, append-nil}
-use mathlib.Core.Option.{Option, none, some, some-injective}
+use Rattle.std.specs.Prelude.{Option, None, Some}
+use Rattle.std.proofs.lemmas.Bool.{and_parts}
+use Rattle.std.proofs.lemmas.Option.{same_Some}
 use lib.Dec.{ltb, leb, eqb}
 use lib.IntN.{ℤ}
-use lib.ListN.{length, get_or, take, drop, set, length-append, length-drop}
-use lib.Seq.{drop-drop, get_or-take, get_or-drop, take-take, take-add, take_at, drop_at, length-take-le, drop-append-add, sets, sets-eq}
+use lib.ListN.{length, get_or, take, drop, length-append, length-drop, drop_of_length-le}
+use lib.Seq.{drop-cons, drop-drop, take-suc, take_all, take_at, drop_at, length-take-le, drop-append-add, sets, sets-eq}
 use mir.Syntax.{w32}
-use mir.Val.{SFits, to_z, of_z}
-use mir.Facts.{to_z-of_z}
-use borrow.Author.Tests.{ltb-true, ltb-false, leb-true, eqb-true, eqb-false, lt-ltb, le-ltb, le-leb, lt-leb, eq-eqb, ne_eqb}
+use mir.Val.{to_z, of_z}
+use borrow.Author.Tests.{ltb-true, ltb-false, leb-true, eqb-true, eqb-false, lt-ltb, le-ltb, le-leb, eq-eqb, ne_eqb}
 use Rattle.engine.specs.declared.state.Outcome.{Outcome}
 use Rattle.sheet.specs.Area.{over}
-use Rattle.sheet.specs.Field.{and_then, field}
-use Rattle.sheet.specs.Sheet.{cut, count, lines, ended, lined, Node, columns, line, reads, first_malformed, four, numbers, Reading, refused, read, reading, outcome, area_after, SheetRead}
-use Rattle.sheet.specs.Answers.{field_of, line_of}
+use Rattle.sheet.specs.Field.{field}
+use Rattle.sheet.specs.Sheet.{cut, count, lines, ended, lined, columns, line, reads, first_malformed, four, numbers, Reading, refused, read, reading, outcome, area_after, SheetRead}
+use Rattle.std.specs.Option.{is_some}
+use Rattle.std.specs.Simd.{first_chunks}
+use Rattle.sheet.specs.Answers.{unless_zero, malformed_line, lines_if_lined}
+use Rattle.sheet.specs.declared.sheet.Node.{Node}
 use Rattle.sheet.proofs.FieldLaws.{then_some, field_back}
-use Rattle.sheet.specs.declared.field.Field.TheVariants.{Number, Malformed}
-use Rattle.sheet.specs.declared.sheet.Line.TheVariants.{Fields, Bad}
 
--- line i, counted from 0, and the lines from i on, of n
-abbrev pub line_at : List ℕ → ℕ → List ℕ
-line_at s i = take 41 (drop (i * 41) s)
-
-unfoldable pub rest : List ℕ → ℕ → ℕ → List (List ℕ)
-rest s n i = cut (n - i) (drop (i * 41) s)
-
-pub rest_all : (s : List ℕ) (n : ℕ) → rest s n 0 ≡ cut n s
-unfolding rest
-rest_all s n = let e : n - 0 ≡ n = omega arith in rw e
-
-pub rest_none : (s : List ℕ) (n i : ℕ) → n ≤ i → rest s n i ≡ []
-unfolding rest cut
-rest_none s n i h = let e : n - i ≡ 0 = omega arith in rw e
-
-module _ (s : List ℕ) (n i : ℕ) (h : i < n) where
-  pub rest_next : rest s n i ≡ line_at s i ∷ rest s n (i + 1)
-  unfolding rest cut
-  rest_next =
-      let e : n - i ≡ suc (n - (i + 1)) = omega arith in
-      let d : i * 41 + 41 ≡ (i + 1) * 41 = omega arith in
-      rw (e, drop-drop 41 (i * 41) s, d)
-
-  line_end : get_or (line_at s i) 40 0 ≡ get_or s (i * 41 + 40) 0
-  line_end = get_or-take 41 (drop (i * 41) s) 40 0 (omega arith) ∙ get_or-drop (i * 41) s 40 0
-
-  pub ended_stop : (get_or s (i * 41 + 40) 0 ≡ 10 → ⊥) → ended (rest s n i) ≡ false
-  unfolding ended
-  ended_stop z = rw (rest_next, line_end, ne_eqb _ _ z)
-
-  pub ended_more : get_or s (i * 41 + 40) 0 ≡ 10 → ended (rest s n i) ≡ ended (rest s n (i + 1))
-  unfolding ended
-  ended_more z = rw (rest_next, line_end, eq-eqb _ _ z)
-
-  pub malformed_here : line (line_at s i) ≡ none → first_malformed (i + 1) (rest s n i) ≡ i + 1
-  unfolding first_malformed
-  malformed_here e = rw (rest_next, e)
-
-  pub malformed_more : (v : Node) → line (line_at s i) ≡ some v → first_malformed (i + 1) (rest s n i) ≡ first_malformed (i + 1 + 1) (rest s n (i + 1))
-  unfolding first_malformed
-  malformed_more v e = rw (rest_next, e, add-one (i + 1))
-
-pub ended_done : (s : List ℕ) (n i : ℕ) → n ≤ i → ended (rest s n i) ≡ true
-unfolding ended
-ended_done s n i h = rw (rest_none s n i h)
-
-pub malformed_done : (s : List ℕ) (n i k : ℕ) → n ≤ i → first_malformed k (rest s n i) ≡ 0
+pub malformed_done : (ls : List (List ℕ)) (i k : ℕ) → length ls ≤ i → first_malformed k (drop i ls) ≡ 0
 unfolding first_malformed
-malformed_done s n i k h = rw (rest_none s n i h)
+malformed_done ls i k h = rw (drop_of_length-le ls h)
 
--- one line more, at the end
-pub numbers_more : (i : ℕ) (s : List ℕ) → numbers (cut (suc i) s) ≡ numbers (cut i s) ++ four (line (line_at s i))
-unfolding numbers cut
-numbers_more zero s = append-nil _
-numbers_more (suc i) s =
-    let d : 41 + i * 41 ≡ suc i * 41 = omega arith in
-    ap (λ x. four (line (take 41 s)) ++ x) (numbers_more i (drop 41 s)) ∙ rw (drop-drop (i * 41) 41 s, d, append_assoc)
+numbers_append : (a b : List (List ℕ)) → numbers (a ++ b) ≡ numbers a ++ numbers b
+unfolding numbers
+numbers_append [] b = refl
+numbers_append (l ∷ a) b = ap (λ x. four (line l) ++ x) (numbers_append a b) ∙ sym (append_assoc (four (line l)) (numbers a) (numbers b))
+
+-- the library's chunks of 41 bytes are the lines
+pub chunks_cut : (n : ℕ) (s : List ℕ) → first_chunks 41 n s ≡ cut n s
+unfolding cut
+chunks_cut zero s = refl
+chunks_cut (suc n) s = ap (λ ls. take 41 s ∷ ls) (chunks_cut n (drop 41 s))
+
+reads_is : (o : Option Node) → reads o ≡ is_some o
+reads_is None = refl
+reads_is (Some v) = refl
+
+-- the lines from line i on, counted from 0
+module _ (ls : List (List ℕ)) (i : ℕ) (h : i < length ls) where
+  pub malformed_here : is_some (line (get_or ls i [])) ≡ false → first_malformed (i + 1) (drop i ls) ≡ i + 1
+  unfolding first_malformed
+  malformed_here e = rw (drop-cons ls i [], reads_is (line (get_or ls i [])), e)
+
+  pub malformed_more :
+      is_some (line (get_or ls i [])) ≡ true → first_malformed (i + 1) (drop i ls) ≡ first_malformed (i + 1 + 1) (drop (i + 1) ls)
+  unfolding first_malformed
+  malformed_more e = rw (drop-cons ls i [], reads_is (line (get_or ls i [])), e, add-one (i + 1), add-one i)
+
+  -- one line more, at the end
+  pub numbers_more : numbers (take (i + 1) ls) ≡ numbers (take i ls) ++ four (line (get_or ls i []))
+  unfolding numbers
+  numbers_more = rw (add-one i, take-suc ls i [] h, numbers_append (take i ls) (get_or ls i [] ∷ []), append-nil (four (line (get_or ls i []))))
 
 -- four numbers a line, where none is malformed
 cut_length : (n : ℕ) (s : List ℕ) → length (cut n s) ≡ n
@@ -97,8 +76,8 @@ numbers_length k (l ∷ ls) e = go (line l) e (numbers_length (suc k) ls)
         (x : Option Node) → cond (reads x) (first_malformed (suc (suc k)) ls) (suc k) ≡ 0 →
         (first_malformed (suc (suc k)) ls ≡ 0 → length (numbers ls) ≡ length ls * 4) →
         length (four x ++ numbers ls) ≡ suc (length ls) * 4
-    go none e h = absurd (omega arith)
-    go (some v) e h = omega (arith, h e)
+    go None e h = absurd (omega arith)
+    go (Some v) e h = omega (arith, h e)
 
 pub lines_numbers : (s : List ℕ) → first_malformed 1 (lines s) ≡ 0 → length (numbers (lines s)) ≡ count s * 4
 lines_numbers s z = numbers_length 0 (lines s) z ∙ ap (λ n. n * 4) (cut_length (count s) s)
@@ -120,115 +99,88 @@ pub over_length : {A : Type 0} (new area : List A) → length new ≤ length are
 unfolding over
 over_length new area h = simp (length-append, length-drop) (omega arith)
 
--- a line by its fields
-pub is_number : (o : Option ℤ) (v : ℤ) → field_of o ≡ Number v → o ≡ some v
-unfolding field_of
-is_number none v e = cc
-is_number (some w) v e = cc
-
-pub is_malformed : (o : Option ℤ) → field_of o ≡ Malformed → o ≡ none
-unfolding field_of
-is_malformed none e = refl
-is_malformed (some w) e = cc
-
 -- a signed number as the machine hands it on
 abbrev kept : ℤ → ℤ
 kept v = to_z w32 (of_z w32 v)
 
-module _ (s : List ℕ) (at : ℕ) (h : at + 41 ≤ length s) where
-  columns_at : (f w : ℕ) → f + w ≤ 41 → columns f w (take 41 (drop at s)) ≡ take w (drop (at + f) s)
-  columns_at f w k =
-      let e : 41 ≡ f + (41 - f) = omega arith in
-      let l : length (take f (drop at s)) ≡ f = length-take-le f (drop at s) (simp length-drop (omega arith)) in
-      rw (e, take-add f (41 - f) (drop at s), drop_at (take f (drop at s)) _ f l, drop-drop)
-      (take-take w (41 - f) (drop (at + f) s) (omega arith))
-
-  by_parts :
-      line (take 41 (drop at s)) ≡
-      and_then (field (take 4 (drop at s)))
-      (λ k.
-      and_then (field (take 12 (drop (at + 4) s)))
-      (λ a.
-      and_then (field (take 12 (drop (at + 16) s)))
-      (λ b.
-      and_then (field (take 12 (drop (at + 28) s))) (λ c. some (record { kind = k; a = a; b = b; c = c })))))
+-- a line by its fields: the first that is malformed, or all four
+module _ (l : List ℕ) where
+  pub line_bad : field (columns 0 4 l) ≡ None → line l ≡ None
   unfolding line
-  by_parts = rw (columns_at 4 12 (omega arith), columns_at 16 12 (omega arith), columns_at 28 12 (omega arith), take-take 4 41 (drop at s) (omega arith))
+  line_bad e = rw e
 
-  pub line_bad : field (take 4 (drop at s)) ≡ none → Bad ≡ line_of (line (take 41 (drop at s)))
-  unfolding line_of
-  line_bad e = rw (by_parts, e)
+  module _ (k : ℤ) (e : field (columns 0 4 l) ≡ Some k) where
+    pub line_bad_a : field (columns 4 12 l) ≡ None → line l ≡ None
+    unfolding line
+    line_bad_a f = rw (e, f)
 
-  module _ (k : ℤ) (e : field (take 4 (drop at s)) ≡ some k) where
-    pub line_bad_a : field (take 12 (drop (at + 4) s)) ≡ none → Bad ≡ line_of (line (take 41 (drop at s)))
-    unfolding line_of
-    line_bad_a f = rw (by_parts, e, f)
+    module _ (a : ℤ) (f : field (columns 4 12 l) ≡ Some a) where
+      pub line_bad_b : field (columns 16 12 l) ≡ None → line l ≡ None
+      unfolding line
+      line_bad_b g = rw (e, f, g)
 
-    module _ (a : ℤ) (f : field (take 12 (drop (at + 4) s)) ≡ some a) where
-      pub line_bad_b : field (take 12 (drop (at + 16) s)) ≡ none → Bad ≡ line_of (line (take 41 (drop at s)))
-      unfolding line_of
-      line_bad_b g = rw (by_parts, e, f, g)
+      module _ (b : ℤ) (g : field (columns 16 12 l) ≡ Some b) where
+        pub line_bad_c : field (columns 28 12 l) ≡ None → line l ≡ None
+        unfolding line
+        line_bad_c m = rw (e, f, g, m)
 
-      module _ (b : ℤ) (g : field (take 12 (drop (at + 16) s)) ≡ some b) where
-        pub line_bad_c : field (take 12 (drop (at + 28) s)) ≡ none → Bad ≡ line_of (line (take 41 (drop at s)))
-        unfolding line_of
-        line_bad_c m = rw (by_parts, e, f, g, m)
-
-        pub line_good :
-            (c : ℤ) → field (take 12 (drop (at + 28) s)) ≡ some c →
-            Fields (kept k) (kept a) (kept b) (kept c) ≡ line_of (line (take 41 (drop at s)))
-        unfolding line_of
-        line_good c m = rw (by_parts, e, f, g, m, field_back _ k e, field_back _ a f, field_back _ b g, field_back _ c m)
-
--- what the code's answer says of a line
-pub is_fields : (o : Option Node) (k a b c : ℤ) → line_of o ≡ Fields k a b c → o ≡ some (record { kind = k; a = a; b = b; c = c })
-unfolding line_of
-is_fields none k a b c e = cc
-is_fields (some n) k a b c e =
-    let p : n.kind ≡ k = cc in
-    let q : n.a ≡ a = cc in
-    let r : n.b ≡ b = cc in
-    let s : n.c ≡ c = cc in
-    ap some (λ i. record { kind = p i; a = q i; b = r i; c = s i })
-
-pub is_bad : (o : Option Node) → line_of o ≡ Bad → o ≡ none
-unfolding line_of
-is_bad none e = refl
-is_bad (some n) e = cc
+        pub line_good : (c : ℤ) → field (columns 28 12 l) ≡ Some c → line l ≡ Some (record { kind = kept k; a = kept a; b = kept b; c = kept c })
+        unfolding line
+        line_good c m = rw (e, f, g, m, field_back _ k e, field_back _ a f, field_back _ b g, field_back _ c m)
 
 -- the machine hands the four numbers of a line on as they are
-pub line_kept :
-    (l : List ℕ) (k a b c : ℤ) → line l ≡ some (record { kind = k; a = a; b = b; c = c }) →
-    (kept k ≡ k) × (kept a ≡ a) × (kept b ≡ b) × (kept c ≡ c)
+pub line_kept : (l : List ℕ) (v : Node) → line l ≡ Some v → (kept v.kind ≡ v.kind) × (kept v.a ≡ v.a) × (kept v.b ≡ v.b) × (kept v.c ≡ v.c)
 unfolding line
-line_kept l k a b c e =
+line_kept l v e =
     let p = then_some (field (columns 0 4 l)) _ _ e in
     let q = then_some (field (columns 4 12 l)) _ _ p.2 in
     let r = then_some (field (columns 16 12 l)) _ _ q.2 in
     let s = then_some (field (columns 28 12 l)) _ _ r.2 in
-    let n = some-injective _ _ s.2 in (
-      field_back _ k (p.1 ∙ ap (λ x. some x.kind) n),
-      field_back _ a (q.1 ∙ ap (λ x. some x.a) n),
-      field_back _ b (r.1 ∙ ap (λ x. some x.b) n),
-      field_back _ c (s.1 ∙ ap (λ x. some x.c) n),
+    let n = same_Some _ _ s.2 in (
+      field_back _ v.kind (p.1 ∙ ap (λ x. Some x.kind) n),
+      field_back _ v.a (q.1 ∙ ap (λ x. Some x.a) n),
+      field_back _ v.b (r.1 ∙ ap (λ x. Some x.b) n),
+      field_back _ v.c (s.1 ∙ ap (λ x. Some x.c) n),
     )
 
--- four numbers written one behind the other
-pub put_four :
-    (l : List ℤ) (at : ℕ) (k a b c : ℤ) → SFits w32 k → SFits w32 a → SFits w32 b → SFits w32 c →
-    set (set (set (set l at (kept k)) (at + 1) (kept a)) (at + 2) (kept b)) (at + 3) (kept c) ≡ sets l at (k ∷ a ∷ b ∷ c ∷ [])
-put_four l at k a b c fk fa fb fc =
-    let e : at + 1 ≡ suc at = omega arith in
-    let f : at + 2 ≡ suc (suc at) = omega arith in
-    let g : at + 3 ≡ suc (suc (suc at)) = omega arith in
-    rw (to_z-of_z fk, to_z-of_z fa, to_z-of_z fb, to_z-of_z fc, e, f, g)
+-- the first malformed line, or none
+pub malformed_found : (ls : List (List ℕ)) (i : ℕ) → first_malformed 1 ls ≡ i + 1 → Some (i + 1) ≡ malformed_line ls
+malformed_found ls i e = rw (e, add-one i)
+
+pub malformed_none : (ls : List (List ℕ)) → first_malformed 1 ls ≡ 0 → None ≡ malformed_line ls
+malformed_none ls e = rw e
+
+pub found_is : (ls : List (List ℕ)) (p : ℕ) → Some p ≡ malformed_line ls → (p ≡ first_malformed 1 ls) × (p ≡ 0 → ⊥)
+found_is ls p e = go (first_malformed 1 ls) e
+  where
+    go : (n : ℕ) → Some p ≡ unless_zero n → (p ≡ n) × (p ≡ 0 → ⊥)
+    go zero e = cc
+    go (suc n) e = let k : p ≡ suc n = cc in (k, λ z. omega arith)
+
+pub none_is : (ls : List (List ℕ)) → None ≡ malformed_line ls → first_malformed 1 ls ≡ 0
+none_is ls e = go (first_malformed 1 ls) e
+  where
+    go : (n : ℕ) → ◌≡◌ {A = Option ℕ} None (unless_zero n) → n ≡ 0
+    go zero e = refl
+    go (suc n) e = cc
+
+-- the lines of a sheet, if they pass the first test
+pub lines_are : (s : List ℕ) (ls : List (List ℕ)) → Some ls ≡ lines_if_lined s → (lined s ≡ true) × (ls ≡ lines s)
+lines_are s ls e = go (lined s) refl e
+  where
+    go : (b : Bool) → lined s ≡ b → Some ls ≡ cond b (Some (lines s)) None → (lined s ≡ true) × (ls ≡ lines s)
+    go true t e = (t, cc)
+    go false t e = cc
+
+pub lines_none : (s : List ℕ) → None ≡ lines_if_lined s → lined s ≡ false
+lines_none s e = go (lined s) refl e
+  where
+    go : (b : Bool) → lined s ≡ b → ◌≡◌ {A = Option (List (List ℕ))} None (cond b (Some (lines s)) None) → lined s ≡ false
+    go true t e = cc
+    go false t e = t
 
 -- the first test
 module _ (s : List ℕ) where
-  pub lined_empty : length s ≡ 0 → false ≡ lined s
-  unfolding lined
-  lined_empty e = rw e
-
   pub lined_odd : (length s % 41 ≡ 0 → ⊥) → false ≡ lined s
   unfolding lined
   lined_odd z = rw (ne_eqb _ _ z) (second (ltb 0 (length s)) (leb (count s) 4096) (ended (lines s)))
@@ -237,26 +189,33 @@ module _ (s : List ℕ) where
       second true c d = refl
       second false c d = refl
 
-  module _ (z : length s ≡ 0 → ⊥) (e : length s % 41 ≡ 0) where
-    lined_rest : lined s ≡ (leb (count s) 4096 && ended (lines s))
+  module _ (e : length s % 41 ≡ 0) where
+    pub lined_ends : 1 ≤ count s → count s ≤ 4096 → lined s ≡ ended (lines s)
     unfolding lined
-    lined_rest = rw (lt-ltb 0 (length s) (omega arith), eq-eqb _ _ e)
+    lined_ends l h = rw (lt-ltb 0 (length s) (omega arith), eq-eqb _ _ e, le-leb _ _ h)
 
-    pub lined_ends : count s ≤ 4096 → ended (lines s) ≡ lined s
-    lined_ends h = sym (lined_rest ∙ rw (le-leb _ _ h))
+    lined_count : (1 ≤ count s → count s ≤ 4096 → ⊥) → lined s ≡ false
+    unfolding lined
+    lined_count z = rw (eq-eqb _ _ e) (go (ltb 0 (length s)) (leb (count s) 4096) refl refl)
+      where
+        go : (a b : Bool) → ltb 0 (length s) ≡ a → leb (count s) 4096 ≡ b → (a && true && b && ended (lines s)) ≡ false
+        go true true p q = absurd (z (omega (arith, ltb-true _ _ p)) (leb-true _ _ q))
+        go true false p q = refl
+        go false b p q = refl
 
-    pub lined_over : 4096 < count s → false ≡ lined s
-    lined_over h = sym (lined_rest ∙ rw (lt-leb _ _ h))
+  pub lined_not : (length s % 41 ≡ 0 → 1 ≤ count s → count s ≤ 4096 → ⊥) → lined s ≡ false
+  lined_not z = go (eqb (length s % 41) 0) refl
+    where
+      go : (b : Bool) → eqb (length s % 41) 0 ≡ b → lined s ≡ false
+      go true p = lined_count (eqb-true _ _ p) (z (eqb-true _ _ p))
+      go false p = sym (lined_odd (eqb-false _ _ p))
 
   pub lined_few : lined s ≡ true → count s ≤ 4096
   unfolding lined
-  lined_few e = leb-true _ _ (third (ltb 0 (length s)) (eqb (length s % 41) 0) (leb (count s) 4096) (ended (lines s)) e)
-    where
-      third : (a b c d : Bool) → (a && b && c && d) ≡ true → c ≡ true
-      third true true true d e = refl
-      third true true false d e = e
-      third true false c d e = cc
-      third false b c d e = cc
+  lined_few e =
+      let a : Bool = ltb 0 (length s) && eqb (length s % 41) 0 in
+      let p = and_parts (a && leb (count s) 4096) (ended (lines s)) e in
+      leb-true _ _ (and_parts a (leb (count s) 4096) p.0).1
 
 -- the three tests and their answers, in order
 module _ (s : List ℕ) (room : ℕ) where
@@ -303,59 +262,86 @@ passed s room r o e = by_lined (lined s) refl
     by_lined false t = absurd (omega (arith, answer _ (test_1 s room t)))
 
 -- what becomes of the area
-module _ (s : List ℕ) (a : List ℤ) (r : Outcome) (o : r ≡ outcome (reading s (length a))) where
-  pub sheet_read : (b : List ℤ) → Passed s (length a) → b ≡ over (numbers (lines s)) a → length b ≡ length a → SheetRead s a b r
-  sheet_read b p e l =
-      let c : r.count ≡ count s = ap (λ y. y.count) o ∙ ap (λ y. (outcome y).count) p.all in
-      let w : r.count * 4 ≤ length b = rw (c, l) p.fits in
-      record { answer = o; area = rw p.all e; within = w; part = sym (length-take-le (r.count * 4) b w) }
+module _ (s : List ℕ) (a : List ℤ) where
+  left : (n p : ℕ) → reading s (length a) ≡ refused n p → SheetRead s a a (record { number = n; place = p; count = 0 })
+  left n p e = record { answer = ap outcome (sym e); area = ap (λ x. area_after x a) (sym e); within = omega arith; part = refl }
 
-  pub sheet_refused : (r.number ≡ 0 → ⊥) → SheetRead s a a r
-  sheet_refused z =
-      let n : (outcome (reading s (length a))).number ≡ 0 → ⊥ = λ e. z (ap (λ y. y.number) o ∙ e) in
-      let c : r.count ≡ 0 = ap (λ y. y.count) o ∙ none_counted (reading s (length a)) n in
-      record { answer = o; area = left (reading s (length a)) n; within = rw c (omega arith); part = rw c }
-    where
-      left : (x : Reading) → ((outcome x).number ≡ 0 → ⊥) → a ≡ area_after x a
-      left (refused n p) h = refl
-      left (read n ns) h = absurd (h refl)
+  pub left_broken : None ≡ lines_if_lined s → SheetRead s a a (record { number = 1; place = 0; count = 0 })
+  left_broken e = left 1 0 (test_1 s (length a) (lines_none s e))
 
-      none_counted : (x : Reading) → ((outcome x).number ≡ 0 → ⊥) → (outcome x).count ≡ 0
-      none_counted (refused n p) h = refl
-      none_counted (read n ns) h = absurd (h refl)
+  module _ (ls : List (List ℕ)) (e : Some ls ≡ lines_if_lined s) where
+    good : lined s ≡ true
+    good = (lines_are s ls e).0
+
+    ls_is : ls ≡ lines s
+    ls_is = (lines_are s ls e).1
+
+    counted : length ls ≡ count s
+    counted = ap length ls_is ∙ cut_length (count s) s
+
+    pub lines_few : length ls ≤ 4096
+    lines_few = omega (arith, counted, lined_few s good)
+
+    pub left_malformed : (p : ℕ) → Some p ≡ malformed_line ls → SheetRead s a a (record { number = 2; place = p; count = 0 })
+    left_malformed p f =
+        let q = found_is ls p f in
+        left 2 p (test_2 s (length a) good p (q.0 ∙ ap (first_malformed 1) ls_is) q.1)
+
+    module _ (f : None ≡ malformed_line ls) where
+      fine : first_malformed 1 (lines s) ≡ 0
+      fine = ap (first_malformed 1) (sym ls_is) ∙ none_is ls f
+
+      pub left_short : length a < length ls * 4 → SheetRead s a a (record { number = 3; place = 0; count = 0 })
+      left_short h = left 3 0 (test_3 s (length a) good fine (omega (arith, counted)))
+
+      pub sheet_read : (b : List ℤ) → length ls * 4 ≤ length a → b ≡ over (numbers ls) a → length b ≡ length a → SheetRead s a b (record { number = 0; place = 0; count = length ls })
+      sheet_read b h o l =
+          let e : reading s (length a) ≡ read (count s) (numbers (lines s)) = test_0 s (length a) good fine (omega (arith, counted)) in
+          let w : length ls * 4 ≤ length b = omega arith in
+          record {
+            answer = rw (e, counted);
+            area = rw e (o ∙ ap (λ x. over (numbers x) a) ls_is);
+            within = w;
+            part = sym (length-take-le (length ls * 4) b w);
+          }
+
+-- writing over a part of the area, behind what is written already
+pub over_put :
+    {A : Type 0} (pre new area : List A) (at k : ℕ) → length pre ≡ at → length new ≡ k →
+    take at (over pre area) ++ (new ++ drop k (drop at (over pre area))) ≡ over (pre ++ new) area
+unfolding over
+over_put pre new area at k e f =
+    rw (take_at pre (drop (length pre) area) at e, drop_at pre (drop (length pre) area) at e, ← f, drop-drop (length new) (length pre) area, append_assoc)
+    (ap (λ x. pre ++ (new ++ drop x area)) (sym (length-append pre new)))
 
 -- how far the nodes are written: those of the first i lines, and none of the lines from i on is malformed
-pub record NodesPut (s : List ℕ) (n i : ℕ) (before area : List ℤ) : Type 0 where
-  pub within : i ≤ n
-  pub size : length (numbers (cut i s)) ≡ i * 4
-  pub done : area ≡ over (numbers (cut i s)) before
-  pub good : first_malformed (i + 1) (rest s n i) ≡ 0
+pub record NodesPut (ls : List (List ℕ)) (i : ℕ) (before area : List ℤ) : Type 0 where
+  pub size : length (numbers (take i ls)) ≡ i * 4
+  pub done : area ≡ over (numbers (take i ls)) before
+  pub good : first_malformed (i + 1) (drop i ls) ≡ 0
 
-pub put_none : (s : List ℕ) (n : ℕ) (before : List ℤ) → first_malformed 1 (cut n s) ≡ 0 → NodesPut s n 0 before before
-unfolding cut numbers over
-put_none s n before e = record { within = omega arith; size = refl; done = refl; good = rw (rest_all s n) e }
+pub put_none : (ls : List (List ℕ)) (before : List ℤ) → first_malformed 1 ls ≡ 0 → NodesPut ls 0 before before
+unfolding numbers over
+put_none ls before e = record { size = refl; done = refl; good = e }
 
-module _ (s : List ℕ) (n i : ℕ) (before area : List ℤ) (w : NodesPut s n i before area) where
-  pub put_length : n * 4 ≤ length before → length area ≡ length before
-  put_length h = rw w.done (over_length _ _ (omega (arith, w.size, w.within)))
+module _ (ls : List (List ℕ)) (i : ℕ) (before area : List ℤ) (w : NodesPut ls i before area) where
+  pub put_all : length ls ≤ i → area ≡ over (numbers ls) before
+  put_all h = rw (← take_all i ls h) w.done
 
-  pub put_all : n ≤ i → area ≡ over (numbers (cut n s)) before
-  put_all h = let e : i ≡ n = omega (arith, w.within) in rw (← e) w.done
-
-  module _ (h : i < n) where
-    pub put_bad : line (line_at s i) ≡ none → ⊥
-    put_bad e = let z : i + 1 ≡ 0 = sym (malformed_here s n i h e) ∙ w.good in omega arith
+  module _ (h : i < length ls) where
+    pub put_bad : line (get_or ls i []) ≡ None → ⊥
+    put_bad e = let z : i + 1 ≡ 0 = sym (malformed_here ls i h (ap is_some e)) ∙ w.good in omega arith
 
     pub put_more :
-        (k a b c : ℤ) (after : List ℤ) → n * 4 ≤ length before →
-        line (line_at s i) ≡ some (record { kind = k; a = a; b = b; c = c }) →
-        after ≡ sets area (i * 4) (kept k ∷ kept a ∷ kept b ∷ kept c ∷ []) → NodesPut s n (i + 1) before after
-    put_more k a b c after m e o =
-        let q = line_kept _ k a b c e in
-        let x : numbers (cut (i + 1) s) ≡ numbers (cut i s) ++ (k ∷ a ∷ b ∷ c ∷ []) = rw (add-one i, numbers_more i s, e) in
+        (v : Node) (k : ℕ) (new after : List ℤ) → line (get_or ls i []) ≡ Some v → k ≡ 4 →
+        new ≡ kept v.kind ∷ kept v.a ∷ kept v.b ∷ kept v.c ∷ [] →
+        after ≡ take (i * 4) area ++ (new ++ drop k (drop (i * 4) area)) → NodesPut ls (i + 1) before after
+    put_more v k new after e f o p =
+        let q = line_kept _ v e in
+        let n : new ≡ v.kind ∷ v.a ∷ v.b ∷ v.c ∷ [] = rw (o, q.0, q.1, q.2, q.3) in
+        let x : numbers (take (i + 1) ls) ≡ numbers (take i ls) ++ (v.kind ∷ v.a ∷ v.b ∷ v.c ∷ []) = rw (numbers_more ls i h, e) in
         record {
-          within = omega arith;
           size = rw x (simp length-append (omega (arith, w.size)));
-          done = rw (o, q.0, q.1, q.2, q.3, w.done, x) (over_more _ (k ∷ a ∷ b ∷ c ∷ []) before (i * 4) w.size (omega arith));
-          good = sym (malformed_more s n i h _ e) ∙ w.good;
+          done = rw (p, n, f, w.done, x) (over_put (numbers (take i ls)) (v.kind ∷ v.a ∷ v.b ∷ v.c ∷ []) before (i * 4) 4 w.size refl);
+          good = sym (malformed_more ls i h (ap is_some e)) ∙ w.good;
         }

@@ -1,7 +1,7 @@
 -- Numbers as text: decimal numerals, and what stands in a field of a given width. Document 01, "Sheet and listing". A field is read by
 -- Field.antt; proofs/NumeralLaws.antt shows that the two are each other's inverse.
 use Rattle.std.specs.Prelude.{ℕ, zero, suc, ◌+◌, ◌-◌, ◌/◌, ◌%◌, cond, List, [], ◌∷◌, ◌++◌, ltb, leb, ℤ, pos, negsuc, length, replicate}
-use Rattle.std.proofs.Math.Option.{Option, none, some}
+use Rattle.std.specs.Prelude.{Option, None, Some}
 
 -- "Decimal", "no leading zeros": a number below ten is its digit, any other the numeral of its tens and then its last digit. At most
 -- `most` digits.
@@ -24,4 +24,4 @@ justified w t = replicate (w - length t) 32 ++ t
 
 -- The text of a number in a field of a sheet; none where the field is too narrow.
 unfoldable pub field_text : (width : ℕ) → ℤ → Option (List ℕ)
-field_text w v = cond (leb (length (signed_numeral v)) w) (some (justified w (signed_numeral v))) none
+field_text w v = cond (leb (length (signed_numeral v)) w) (Some (justified w (signed_numeral v))) None

@@ -1,9 +1,11 @@
 -- Reading a sheet. Document 01, "Sheet and listing" and rows 1 to 3 of "Stops and refusals".
-use Rattle.std.specs.Prelude.{ℕ, zero, suc, ◌*◌, ◌/◌, ◌%◌, ◌≤◌, ◌≡◌, Bool, true, false, cond, not, ◌&&◌, List, [], ◌∷◌, ◌++◌, ltb, leb, eqb, ℤ, length, get_or, take, drop}
-use Rattle.std.proofs.Math.Option.{Option, none, some}
+use Rattle.std.specs.Prelude.{ℕ, zero, suc, ◌*◌, ◌/◌, ◌%◌, ◌≤◌, ◌≡◌, Bool, true, false, cond, not, ◌&&◌, List, [], ◌∷◌, ◌++◌, ◌==◌, ltb, leb, eqb, ℤ, length, slice_index, take, drop}
+use Rattle.std.specs.List.{list_all}
+use Rattle.std.specs.Prelude.{Option, None, Some}
 use Rattle.engine.specs.declared.state.Outcome.{Outcome}
 use Rattle.sheet.specs.Area.{over}
 use Rattle.sheet.specs.Field.{and_then, field}
+use Rattle.sheet.specs.declared.sheet.Node.{Node}
 
 -- "A sheet line is 41 bytes": the first n lines of s.
 unfoldable pub cut : ℕ → List ℕ → List (List ℕ)
@@ -17,36 +19,28 @@ abbrev pub lines : List ℕ → List (List ℕ)
 lines s = cut (count s) s
 
 -- "then byte 10, or it is broken": no line is broken.
-unfoldable pub ended : List (List ℕ) → Bool
-ended [] = true
-ended (l ∷ ls) = eqb (get_or l 40 0) 10 && ended ls
+abbrev pub ended : List (List ℕ) → Bool
+ended ls = list_all (λ l. slice_index l 40 == 10) ls
 
 -- The first test is passed: not "sheet empty, broken line, over 4,096 lines".
 unfoldable pub lined : List ℕ → Bool
 lined s = ltb 0 (length s) && eqb (length s % 41) 0 && leb (count s) 4096 && ended (lines s)
 
--- "Each is kind, a, b, c as signed 32-bit numbers".
-pub record Node : Type 0 where
-  pub kind : ℤ
-  pub a : ℤ
-  pub b : ℤ
-  pub c : ℤ
-
 abbrev pub columns : (from width : ℕ) → List ℕ → List ℕ
 columns from width l = take width (drop from l)
 
--- "fields of 4, 12, 12, 12 columns".
+-- "fields of 4, 12, 12, 12 columns". "Each is kind, a, b, c as signed 32-bit numbers".
 unfoldable pub line : List ℕ → Option Node
 line l =
     and_then (field (columns 0 4 l)) (λ kind.
     and_then (field (columns 4 12 l)) (λ a.
     and_then (field (columns 16 12 l)) (λ b.
     and_then (field (columns 28 12 l)) (λ c.
-    some (record { kind = kind; a = a; b = b; c = c })))))
+    Some (record { kind = kind; a = a; b = b; c = c })))))
 
 abbrev pub reads : Option Node → Bool
-reads none = false
-reads (some n) = true
+reads None = false
+reads (Some n) = true
 
 -- "malformed field": the first line that has one, where the first of `ls` is line k; 0 where none has.
 unfoldable pub first_malformed : ℕ → List (List ℕ) → ℕ
@@ -55,8 +49,8 @@ first_malformed k (l ∷ ls) = cond (reads (line l)) (first_malformed (suc k) ls
 
 -- The nodes of the lines, four numbers each.
 abbrev pub four : Option Node → List ℤ
-four none = []
-four (some n) = n.kind ∷ n.a ∷ n.b ∷ n.c ∷ []
+four None = []
+four (Some n) = n.kind ∷ n.a ∷ n.b ∷ n.c ∷ []
 
 unfoldable pub numbers : List (List ℕ) → List ℤ
 numbers [] = []

@@ -1,121 +1,83 @@
 // A decimal field, right-justified by spaces.
-ghost use Rattle.std.specs.Prelude.{◌≡◌, ◌+◌, ◌≤◌, length, drop};
-ghost use Rattle.sheet.specs.Field.{behind_spaces, digit, decimal, natural, positive, negative, field};
-ghost use Rattle.sheet.specs.Answers.{digits_of, told, field_of};
+ghost use Rattle.std.specs.Prelude.{◌≡◌, ◌≤◌, Some, length};
+ghost use Rattle.sheet.specs.Field.{behind_spaces, digit, decimal, natural, positive, negative, signed, field};
 
-// A number read from digits, or that something else stands there.
-#[derive(Clone, Copy)]
-pub(crate) enum Digits {
-    Value(u64),
-    Other,
-}
-
-#[derive(Clone, Copy)]
-pub(crate) enum Field {
-    Number(i32),
-    Malformed,
-}
-
-// Where the spaces in front end.
-fn spaces(f: &[u8]) -> usize
-    ensures { (result ≤ length f.now) × (drop result f.now ≡ behind_spaces f.now) }
+// What stands behind the spaces in front.
+fn behind_spaces(f: &[u8]) -> &[u8]
+    ensures value { result.now ≡ behind_spaces f.now }
+    ensures len { length result.now ≤ length f.now }
 {
-    let mut i = 0;
-    while i < f.len() {
-        if f[i] != b' ' {
-            return i;
-        }
-        i += 1;
+    let mut s = f;
+    while let [b' ', rest @ ..] = s {
+        s = rest;
     }
-    i
+    s
 }
 
-fn digit_of(b: u8) -> Digits
-    ensures { result ≡ digits_of (digit b) }
+fn digit(b: u8) -> Option<u64>
+    ensures { result ≡ digit b }
 {
-    if b < b'0' {
-        return Digits::Other;
+    match b {
+        b'0'..=b'9' => Some((b - b'0') as u64),
+        _ => None,
     }
-    if b <= b'9' {
-        return Digits::Value((b - b'0') as u64);
-    }
-    Digits::Other
 }
 
-// The digits from a place to the end. Twelve columns hold no more than 64 bits do.
-fn value(f: &[u8], from: usize) -> Digits
-    requires { (from ≤ length f.now) × (length f.now ≤ 12) }
-    ensures { result ≡ digits_of (decimal 0 (drop from f.now)) }
+// Digits alone. Twelve columns hold no more than 64 bits do.
+// Kept: that bound, here, in `natural` and in `signed`: checked sums would give a second answer to what the definition answers as a number.
+fn decimal(s: &[u8]) -> Option<u64>
+    requires { length s.now ≤ 12 }
+    ensures { result ≡ decimal 0 s.now }
 {
     let mut n: u64 = 0;
-    let mut i = from;
-    while i < f.len() {
-        let Digits::Value(d) = digit_of(f[i]) else {
-            return Digits::Other;
-        };
-        n = n * 10 + d;
-        i += 1;
+    for b in s {
+        n = n * 10 + digit(*b)?;
     }
-    Digits::Value(n)
+    Some(n)
 }
 
 // One digit or more, with no zero in front of others.
-fn number(f: &[u8], at: usize) -> Digits
-    requires { (at ≤ length f.now) × (length f.now ≤ 12) }
-    ensures { result ≡ digits_of (natural (drop at f.now)) }
+fn natural(s: &[u8]) -> Option<u64>
+    requires { length s.now ≤ 12 }
+    ensures { result ≡ natural s.now }
 {
-    if at == f.len() {
-        return Digits::Other;
+    match s {
+        [] => None,
+        [b'0', _, ..] => None,
+        _ => decimal(s),
     }
-    let next = at + 1;
-    if next == f.len() {
-        return value(f, at);
-    }
-    if f[at] == b'0' {
-        return Digits::Other;
-    }
-    value(f, at)
 }
 
-fn plus(d: Digits) -> Field
-    ensures { result ≡ field_of (positive (told d)) }
+fn positive(n: u64) -> Option<i32>
+    ensures { result ≡ positive (Some n) }
 {
-    let Digits::Value(n) = d else {
-        return Field::Malformed;
-    };
-    if n < 2147483648 {
-        return Field::Number(n as i32);
-    }
-    Field::Malformed
+    i32::try_from(n).ok()
 }
 
-fn minus(d: Digits) -> Field
-    ensures { result ≡ field_of (negative (told d)) }
+fn negative(n: u64) -> Option<i32>
+    ensures { result ≡ negative (Some n) }
 {
-    let Digits::Value(n) = d else {
-        return Field::Malformed;
-    };
     if n == 0 {
-        return Field::Malformed;
+        return None;
     }
     // -n fits where n does not: -1 - (n - 1).
-    let m = n - 1;
-    if m < 2147483648 {
-        return Field::Number(-1 - m as i32);
-    }
-    Field::Malformed
+    let less = i32::try_from(n - 1).ok()?;
+    Some(-1 - less)
 }
 
-pub(crate) fn read_field(f: &[u8]) -> Field
-    requires { length f.now ≤ 12 }
-    ensures { result ≡ field_of (field f.now) }
+fn signed(s: &[u8]) -> Option<i32>
+    requires { length s.now ≤ 12 }
+    ensures { result ≡ signed s.now }
 {
-    let at = spaces(f);
-    if at == f.len() {
-        return Field::Malformed;
+    match s {
+        [b'-', digits @ ..] => negative(natural(digits)?),
+        _ => positive(natural(s)?),
     }
-    if f[at] == b'-' {
-        return minus(number(f, at + 1));
-    }
-    plus(number(f, at))
+}
+
+pub(crate) fn read_field(f: &[u8]) -> Option<i32>
+    requires { length f.now ≤ 12 }
+    ensures { result ≡ field f.now }
+{
+    signed(behind_spaces(f))
 }

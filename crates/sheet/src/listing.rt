@@ -3,21 +3,14 @@ ghost use Rattle.std.specs.Prelude.{◌≡◌, cond, ◌+◌, ◌-◌, ◌*◌, 
 ghost use Rattle.std.proofs.lemmas.List.Edits.{sets};
 ghost use Rattle.sheet.specs.Listing.{six, fields, line_text, head_line, token_line, rule_line, later_line, later_count, listing, whole, Written, ListingWritten};
 
-use crate::numeral::{digits, put_numeral, put_spaces};
+use crate::numeral::{digits, put_numeral};
 use engine::state::Outcome;
 
-// How many spaces stand before a numeral of k digits.
-fn spaces_before(k: usize) -> usize
-    ensures { result ≡ 6 - k }
-{
-    if k < 6 { 6 - k } else { 0 }
-}
-
+// A field is six wide, or as wide as its numeral.
 fn width(n: u32) -> usize
     ensures { result ≡ length (six n) }
 {
-    let k = digits(n);
-    spaces_before(k) + k
+    digits(n).max(6)
 }
 
 // One field; answers the place behind it.
@@ -25,10 +18,9 @@ fn put_six(n: u32, out: &mut [u8], at: usize) -> usize
     requires { at + length (six n) ≤ length out.old }
     ensures { (out.new ≡ sets out.old at (six n)) × (result ≡ at + length (six n)) }
 {
-    let k = digits(n);
-    let start = at + spaces_before(k);
-    put_spaces(out, at, start);
-    let end = start + k;
+    let end = at + width(n);
+    let start = end - digits(n);
+    out[at..start].fill(b' ');
     put_numeral(n, out, end);
     end
 }
@@ -38,14 +30,12 @@ fn has_room(numbers: &[u32], room: usize) -> bool
     ensures { result ≡ ltb (length (fields numbers.now)) room }
 {
     let mut left = room;
-    let mut i = 0;
-    while i < numbers.len() {
-        let w = width(numbers[i]);
+    for n in numbers {
+        let w = width(*n);
         if left < w {
             return false;
         }
         left -= w;
-        i += 1;
     }
     0 < left
 }
@@ -55,30 +45,30 @@ fn put_line(numbers: &[u32], out: &mut [u8]) -> usize
     ensures { Written (line_text numbers.now) out.old out.new result }
 {
     let mut at = 0;
-    let mut i = 0;
-    while i < numbers.len() {
-        at = put_six(numbers[i], out, at);
-        i += 1;
+    for n in numbers {
+        at = put_six(*n, out, at);
     }
     out[at] = b'\n';
     at + 1
 }
 
 // A line of fields; nothing, and 0, where the area is too short for it.
+// Kept: a line has its end at least, so 0 says that none was written, and callers add up what they get.
 fn write_line(numbers: &[u32], out: &mut [u8]) -> usize
     ensures { Written (whole out.old (line_text numbers.now)) out.old out.new result }
 {
     if has_room(numbers, out.len()) {
-        return put_line(numbers, out);
+        put_line(numbers, out)
+    } else {
+        0
     }
-    0
 }
 
 // A number of an area; 0 past its end.
 fn number_at(area: &[u32], i: usize) -> u32
     ensures { result ≡ get_or area.now i 0 }
 {
-    if i < area.len() { area[i] } else { 0 }
+    area.get(i).copied().unwrap_or(0)
 }
 
 fn write_head(o: Outcome, out: &mut [u8]) -> usize
@@ -121,22 +111,20 @@ fn write_later(o: Outcome, tokens: &[u32], report: &[u32], k: u32, out: &mut [u8
     ensures { Written (whole out.old (later_line o.number tokens.now report.now k)) out.old out.new result }
 {
     if o.number == 0 {
-        return write_token(tokens, k, out);
+        write_token(tokens, k, out)
+    } else {
+        write_rule(report, k, out)
     }
-    write_rule(report, k, out)
 }
 
 // How many lines stand behind the head.
 fn later_count(o: Outcome) -> u32
     ensures { result ≡ later_count o }
 {
-    if o.number == 0 {
-        return o.count;
+    match o.number {
+        0 | 10 => o.count,
+        _ => 0,
     }
-    if o.number == 10 {
-        return o.count;
-    }
-    0
 }
 
 // How many bytes the listing has: each line is tried on an area that holds any line.
@@ -146,11 +134,8 @@ fn listing_size(o: Outcome, tokens: &[u32], report: &[u32]) -> usize
     let lines = later_count(o);
     let mut line = [0u8; 61];
     let mut size = write_head(o, &mut line);
-    let mut k = 0;
-    while k < lines {
-        let n = write_later(o, tokens, report, k, &mut line);
-        size += n;
-        k += 1;
+    for k in 0..lines {
+        size += write_later(o, tokens, report, k, &mut line);
     }
     size
 }
@@ -162,16 +147,14 @@ fn put_listing(o: Outcome, tokens: &[u32], report: &[u32], out: &mut [u8]) -> us
 {
     let count = later_count(o);
     let mut at = write_head(o, out);
-    let mut k = 0;
-    while k < count {
-        let n = write_later(o, tokens, report, k, &mut out[at..]);
-        at += n;
-        k += 1;
+    for k in 0..count {
+        at += write_later(o, tokens, report, k, &mut out[at..]);
     }
     at
 }
 
 // The listing at the start of the area; answers how many bytes that are. 0, and the area as it was, where the area is too short for it.
+// Kept: a listing has a line at least, so 0 is no listing's size, and `&out[..n]` needs no case.
 pub fn write_listing(o: Outcome, tokens: &[u32], report: &[u32], out: &mut [u8]) -> usize
     ensures { ListingWritten o tokens.now report.now out.old out.new result }
 {

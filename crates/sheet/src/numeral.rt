@@ -1,5 +1,5 @@
 // Decimal numerals in a lent area.
-ghost use Rattle.std.specs.Prelude.{◌≡◌, ◌+◌, ◌-◌, ◌≤◌, ◌<◌, length, replicate};
+ghost use Rattle.std.specs.Prelude.{◌≡◌, ◌+◌, ◌≤◌, ◌<◌, length};
 ghost use Rattle.std.proofs.lemmas.List.Edits.{sets};
 ghost use Rattle.sheet.specs.Numeral.{numeral};
 
@@ -7,13 +7,7 @@ ghost use Rattle.sheet.specs.Numeral.{numeral};
 pub(crate) fn digits(n: u32) -> usize
     ensures { result ≡ length (numeral n) }
 {
-    let mut k = 1;
-    let mut rest = n;
-    while 10 <= rest {
-        rest = rest / 10;
-        k += 1;
-    }
-    k
+    n.checked_ilog10().unwrap_or(0) as usize + 1
 }
 
 fn digit_byte(d: u32) -> u8
@@ -24,6 +18,7 @@ fn digit_byte(d: u32) -> u8
 }
 
 // The numeral of n, its last digit before `end`; answers where it starts.
+// Kept: the library's `write!` into a lent slice says nothing of the bytes that it writes.
 pub(crate) fn put_numeral(n: u32, out: &mut [u8], end: usize) -> usize
     requires { (length (numeral n) ≤ end) × (end ≤ length out.old) }
     ensures { (out.new ≡ sets out.old result (numeral n)) × (result + length (numeral n) ≡ end) }
@@ -38,15 +33,4 @@ pub(crate) fn put_numeral(n: u32, out: &mut [u8], end: usize) -> usize
     i -= 1;
     out[i] = digit_byte(rest);
     i
-}
-
-pub(crate) fn put_spaces(out: &mut [u8], from: usize, to: usize)
-    requires { (from ≤ to) × (to ≤ length out.old) }
-    ensures { out.new ≡ sets out.old from (replicate (to - from) 32) }
-{
-    let mut i = to;
-    while from < i {
-        i -= 1;
-        out[i] = b' ';
-    }
 }

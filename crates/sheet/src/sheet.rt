@@ -1,161 +1,135 @@
 // Reading a sheet: lines of 41 bytes, four fields and a line end.
-ghost use Rattle.std.specs.Prelude.{◌≡◌, ◌∷◌, [], ◌+◌, ◌*◌, ◌≤◌, length, take, drop};
-ghost use Rattle.std.proofs.lemmas.List.Edits.{sets};
+ghost use Rattle.std.specs.Prelude.{◌≡◌, ◌*◌, ◌≤◌, length, option_copied};
 ghost use Rattle.sheet.specs.Area.{over};
-ghost use Rattle.sheet.specs.Field.{field};
-ghost use Rattle.sheet.specs.Sheet.{cut, ended, lined, line, first_malformed, numbers, refused, reading, outcome, SheetRead};
-ghost use Rattle.sheet.specs.Answers.{field_of, line_of};
+ghost use Rattle.sheet.specs.Sheet.{ended, line, first_malformed, numbers, outcome, SheetRead};
+ghost use Rattle.sheet.specs.Answers.{lines_if_lined, malformed_line, told, answered};
 
-use crate::field::{Field, read_field};
+use crate::field::read_field;
 use engine::state::Outcome;
 
+// A line's bytes, its end among them.
+pub(crate) type Line = [u8; 41];
+
+// A line's numbers.
+// Kept: checks has the same struct, see there.
 #[derive(Clone, Copy)]
-pub(crate) enum Line {
-    Fields(i32, i32, i32, i32),
-    Bad,
+pub(crate) struct Node {
+    pub kind: i32,
+    pub a: i32,
+    pub b: i32,
+    pub c: i32,
 }
 
-// Whether each of the first n lines ends in a line end.
-fn all_ended(sheet: &[u8], n: usize) -> bool
-    requires { n * 41 ≤ length sheet.now }
-    ensures { result ≡ ended (cut n sheet.now) }
-{
-    let mut i = 0;
-    while i < n {
-        if sheet[i * 41 + 40] != b'\n' {
-            return false;
+// Why a sheet is refused, in the order of the tests. A malformed field has its line, counted from 1.
+#[derive(Clone, Copy)]
+pub(crate) enum Refused {
+    Broken,
+    Malformed(u32),
+    NoRoom,
+}
+
+impl From<Refused> for Outcome {
+    ghost from_gives = { λ e r. r ≡ outcome (told e) };
+
+    fn from(refused: Refused) -> Outcome {
+        let (number, place) = match refused {
+            Refused::Broken => (1, 0),
+            Refused::Malformed(line) => (2, line),
+            Refused::NoRoom => (3, 0),
+        };
+        Outcome {
+            number,
+            place,
+            count: 0,
         }
-        i += 1;
     }
-    true
+}
+
+// Whether each line ends in a line end.
+fn all_ended(lines: &[Line]) -> bool
+    ensures { result ≡ ended lines.now }
+{
+    lines.iter().all(|line| line[40] == b'\n')
 }
 
 // The first test: some lines, at most 4,096 of them, and none broken.
-fn is_lined(sheet: &[u8]) -> bool
-    ensures { result ≡ lined sheet.now }
+fn lines(sheet: &[u8]) -> Option<&[Line]>
+    ensures { option_copied result ≡ lines_if_lined sheet.now }
 {
-    if sheet.len() == 0 {
-        return false;
+    let (lines, rest) = sheet.as_chunks::<41>();
+    if !rest.is_empty() || lines.is_empty() || 4096 < lines.len() {
+        return None;
     }
-    if sheet.len() % 41 != 0 {
-        return false;
+    if !all_ended(lines) {
+        return None;
     }
-    let n = sheet.len() / 41;
-    if n <= 4096 {
-        return all_ended(sheet, n);
+    Some(lines)
+}
+
+// Fields of 4, 12, 12 and 12 columns.
+fn read_line(bytes: &Line) -> Option<Node>
+    ensures { result ≡ line bytes.now }
+{
+    Some(Node {
+        kind: read_field(&bytes[..4])?,
+        a: read_field(&bytes[4..16])?,
+        b: read_field(&bytes[16..28])?,
+        c: read_field(&bytes[28..40])?,
+    })
+}
+
+// The second test: the first line with a malformed field, counted from 1.
+fn first_malformed(lines: &[Line]) -> Option<u32>
+    requires { length lines.now ≤ 4096 }
+    ensures { result ≡ malformed_line lines.now }
+{
+    for (i, line) in lines.iter().enumerate() {
+        if read_line(line).is_none() {
+            return Some(i as u32 + 1);
+        }
     }
-    false
+    None
 }
 
-fn field_at(sheet: &[u8], from: usize, width: usize) -> Field
-    requires { (from + width ≤ length sheet.now) × (width ≤ 12) }
-    ensures { result ≡ field_of (field (take width (drop from sheet.now))) }
+// The nodes of lines of which none is malformed, at the start of the area.
+fn put_nodes(lines: &[Line], nodes: &mut [i32])
+    requires room { length lines.now * 4 ≤ length nodes.old }
+    requires good { first_malformed 1 lines.now ≡ 0 }
+    ensures { nodes.new ≡ over (numbers lines.now) nodes.old }
 {
-    let end = from + width;
-    read_field(&sheet[from..end])
-}
-
-// The line whose bytes start at `at`: fields of 4, 12, 12 and 12 columns.
-fn read_line(sheet: &[u8], at: usize) -> Line
-    requires { at + 41 ≤ length sheet.now }
-    ensures { result ≡ line_of (line (take 41 (drop at sheet.now))) }
-{
-    let Field::Number(kind) = field_at(sheet, at, 4) else {
-        return Line::Bad;
-    };
-    let Field::Number(a) = field_at(sheet, at + 4, 12) else {
-        return Line::Bad;
-    };
-    let Field::Number(b) = field_at(sheet, at + 16, 12) else {
-        return Line::Bad;
-    };
-    let Field::Number(c) = field_at(sheet, at + 28, 12) else {
-        return Line::Bad;
-    };
-    Line::Fields(kind, a, b, c)
-}
-
-// The first of n lines with a malformed field, counted from 1; 0 where there is none.
-fn first_bad(sheet: &[u8], n: usize) -> u32
-    requires { (n * 41 ≤ length sheet.now) × (n ≤ 4096) }
-    ensures { result ≡ first_malformed 1 (cut n sheet.now) }
-{
-    let mut i = 0;
-    while i < n {
-        let Line::Fields(_, _, _, _) = read_line(sheet, i * 41) else {
-            return i as u32 + 1;
-        };
-        i += 1;
-    }
-    0
-}
-
-fn put_node(nodes: &mut [i32], at: usize, kind: i32, a: i32, b: i32, c: i32)
-    requires { at + 4 ≤ length nodes.old }
-    ensures { nodes.new ≡ sets nodes.old at (kind ∷ a ∷ b ∷ c ∷ []) }
-{
-    nodes[at] = kind;
-    nodes[at + 1] = a;
-    nodes[at + 2] = b;
-    nodes[at + 3] = c;
-}
-
-// The nodes of n lines, none of them malformed, at the start of the area.
-fn put_nodes(sheet: &[u8], n: usize, nodes: &mut [i32])
-    requires { (n * 41 ≤ length sheet.now) × (n * 4 ≤ length nodes.old) × (first_malformed 1 (cut n sheet.now) ≡ 0) }
-    ensures { nodes.new ≡ over (numbers (cut n sheet.now)) nodes.old }
-{
-    let mut i = 0;
-    while i < n {
-        // Each line was read before, so this one is no bad one.
-        let Line::Fields(kind, a, b, c) = read_line(sheet, i * 41) else {
-            return;
-        };
-        put_node(nodes, i * 4, kind, a, b, c);
-        i += 1;
+    for (i, line) in lines.iter().enumerate() {
+        if let Some(n) = read_line(line) {
+            let at = i * 4;
+            nodes[at..at + 4].copy_from_slice(&[n.kind, n.a, n.b, n.c]);
+        }
     }
 }
 
-fn refusal(number: u32, place: u32) -> Outcome
-    ensures { result ≡ outcome (refused number place) }
+// The three tests, in order, over the whole sheet, and then the nodes; answers how many. A refusal leaves the area as it was.
+fn read_nodes(sheet: &[u8], nodes: &mut [i32]) -> Result<u32, Refused>
+    ensures { SheetRead sheet.now nodes.old nodes.new (answered result) }
 {
-    Outcome {
-        number: number,
-        place: place,
-        count: 0,
+    let lines = lines(sheet).ok_or(Refused::Broken)?;
+    if let Some(line) = first_malformed(lines) {
+        return Err(Refused::Malformed(line));
     }
-}
-
-// The three tests, in order, over the whole sheet, for a node area of `room` numbers. Nothing is written here.
-fn tested(sheet: &[u8], room: usize) -> Outcome
-    ensures { result ≡ outcome (reading sheet.now room) }
-{
-    if !is_lined(sheet) {
-        return refusal(1, 0);
+    if nodes.len() < lines.len() * 4 {
+        return Err(Refused::NoRoom);
     }
-    let n = sheet.len() / 41;
-    let bad = first_bad(sheet, n);
-    if bad != 0 {
-        return refusal(2, bad);
-    }
-    if room < n * 4 {
-        return refusal(3, 0);
-    }
-    Outcome {
-        number: 0,
-        place: 0,
-        count: n as u32,
-    }
+    put_nodes(lines, nodes);
+    Ok(lines.len() as u32)
 }
 
 // Reads a sheet into the node area. A refusal leaves the area as it was.
 pub fn read_sheet(sheet: &[u8], nodes: &mut [i32]) -> Outcome
     ensures { SheetRead sheet.now nodes.old nodes.new result }
 {
-    let o = tested(sheet, nodes.len());
-    if o.number == 0 {
-        let n = sheet.len() / 41;
-        put_nodes(sheet, n, nodes);
+    match read_nodes(sheet, nodes) {
+        Ok(count) => Outcome {
+            number: 0,
+            place: 0,
+            count,
+        },
+        Err(refused) => refused.into(),
     }
-    o
 }

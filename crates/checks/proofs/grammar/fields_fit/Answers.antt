@@ -1,6 +1,17 @@
--- The code's rows are the definition's, over the tests of the line.
-use Rattle.checks.proofs.GrammarLaws.{rows_read}
+-- The code's rows are the definition's, test by test.
+use mathlib.Core.Path.{◌∙◌}
+use Rattle.std.proofs.Common.{rules}
+use Rattle.checks.proofs.FieldLaws.{back}
+use Rattle.checks.proofs.GrammarLaws.{rows_fit}
 use Rattle.checks.proofs.grammar.fields_fit.Goals as goal
 
 pub returns : goal.returns
-returns c = rows_read c.args.nodes.now c.args.literals.now c.args.line c.kind_at-kind.result c.tests_at-t.result c.kind_at-kind.ensures c.tests_at-t.ensures c.row_of.ensures
+returns c =
+    let n = c.args.node in
+    c.row_of.ensures
+    ∙ rows_fit c.args.nodes.now c.args.literals.bytes.now c.args.line
+    (back n.kind (search rules)) (back n.a (search rules)) (back n.b (search rules)) (back n.c (search rules))
+    c.literal_fits.ensures c.is_scalar.ensures c.is_scalar-2.ensures c.is_count.ensures
+    c.is_nil.ensures c.is_nil-nil_b.ensures c.is_nil-nil_c.ensures c.is_lower-lower_a.ensures c.is_lower-lower_b.ensures
+    c.is_name-name_a.ensures c.calls_rule.ensures
+    c.between.ensures c.between-2.ensures c.between-3.ensures c.between-4.ensures

@@ -1,18 +1,18 @@
--- Invariant: the search from here gives the whole search's answer.
-use mathlib.Core.Path.{sym, ap, ◌∙◌}
-use mathlib.Core.Bool.{not}
-use Rattle.checks.specs.FieldTests.{line_misfits}
-use Rattle.checks.proofs.FirstLine.{come_first, come_here, come_later, come_over}
+-- What the search finds is the first such line.
+use mathlib.Core.Path.{◌≡◌}
+use mathlib.Core.Bool.{Bool, true, false}
+use Prim.Native.Nat.{ℕ}
+use borrow.Author.Tests.{tests}
+use Rattle.std.proofs.Common.{rules}
+use Rattle.std.proofs.lemmas.Iterator.{first_from_Range}
+use Rattle.reading.specs.Grammar.{line_count}
+use Rattle.checks.specs.Lines.{line_misfits}
+use Rattle.checks.proofs.FirstLine.{found_first}
 use Rattle.checks.proofs.grammar.first_misfit.Goals as goal
 
-pub loop-line-init : goal.loop-line-init
-loop-line-init c = come_first _ _
-
-pub returns-then-not-line_fits : goal.returns-then-not-line_fits
-returns-then-not-line_fits c = come_here (line_misfits c.args.nodes.now c.args.literals.now) c.args.count c.loop-line.line c.loop-line.invariant c.loop-line-test.true (sym (ap not c.line_fits.ensures) ∙ (ap not c.if-not-line_fits.true))
-
-pub loop-line-preserved : goal.loop-line-preserved
-loop-line-preserved c = come_later (line_misfits c.args.nodes.now c.args.literals.now) c.args.count c.loop-line.line c.loop-line.invariant c.loop-line-test.true (sym (ap not c.line_fits.ensures) ∙ (ap not c.if-not-line_fits.false))
-
 pub returns : goal.returns
-returns c = come_over (line_misfits c.args.nodes.now c.args.literals.now) c.args.count c.loop-line.line c.loop-line.invariant c.loop-line-test.false
+returns c =
+    let test : ℕ → Bool = line_misfits c.args.nodes.now c.args.literals.bytes.now in
+    found_first test (line_count c.args.nodes.now) c.find.result
+    (first_from_Range _ _ _ _ (λ l. test l ≡ true) (λ l. test l ≡ false) c.find.ensures.ran
+    (λ x q k. search (rules, tests)) (λ x q k. search (rules, tests)))

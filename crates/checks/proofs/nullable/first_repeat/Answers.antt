@@ -1,18 +1,19 @@
--- Invariant: the search from here gives the whole search's answer.
-use mathlib.Core.Path.{sym, ◌∙◌}
+-- What the search finds is the first such line.
+use mathlib.Core.Path.{◌≡◌}
+use mathlib.Core.Bool.{Bool, true, false}
+use Prim.Native.Nat.{ℕ}
 use lib.ListN.{length}
-use Rattle.checks.specs.FieldTests.{flagged_repeat}
-use Rattle.checks.proofs.FirstLine.{come_first, come_here, come_later, come_over}
+use borrow.Author.Tests.{tests}
+use Rattle.std.proofs.Common.{rules}
+use Rattle.std.proofs.lemmas.Iterator.{first_from_Range}
+use Rattle.reading.specs.Grammar.{node_at}
+use Rattle.checks.specs.Lines.{flagged_repeat}
+use Rattle.checks.proofs.FirstLine.{found_first}
 use Rattle.checks.proofs.nullable.first_repeat.Goals as goal
 
-pub loop-line-init : goal.loop-line-init
-loop-line-init c = come_first _ _
-
-pub returns-then-repeat_stands_still : goal.returns-then-repeat_stands_still
-returns-then-repeat_stands_still c = come_here (flagged_repeat c.args.nodes.now c.args.flags.now) (length c.args.flags.now) c.loop-line.line c.loop-line.invariant c.loop-line-test.true (sym c.repeat_stands_still.ensures ∙ c.if-repeat_stands_still.true)
-
-pub loop-line-preserved : goal.loop-line-preserved
-loop-line-preserved c = come_later (flagged_repeat c.args.nodes.now c.args.flags.now) (length c.args.flags.now) c.loop-line.line c.loop-line.invariant c.loop-line-test.true (sym c.repeat_stands_still.ensures ∙ c.if-repeat_stands_still.false)
-
 pub returns : goal.returns
-returns c = come_over (flagged_repeat c.args.nodes.now c.args.flags.now) (length c.args.flags.now) c.loop-line.line c.loop-line.invariant c.loop-line-test.false
+returns c =
+    let test : ℕ → Bool = λ l. flagged_repeat c.args.flags.now (node_at c.args.nodes.now l) in
+    found_first test (length c.args.flags.now) c.find.result
+    (first_from_Range _ _ _ _ (λ l. test l ≡ true) (λ l. test l ≡ false) c.find.ensures.ran
+    (λ x q k. search (rules, tests)) (λ x q k. search (rules, tests)))

@@ -1,22 +1,32 @@
 -- Tracking ends Ok, and the End is written to the state that it left; or it does not, and that is the end.
-use mathlib.Core.Path.{refl, ap, ◌∙◌}
+use mathlib.Core.Path.{◌≡◌, refl}
 use Rattle.reading.specs.Ending.{is_negative}
-use Rattle.engine.specs.Fields.{ParserState, fields}
-use Rattle.engine.specs.Areas.{view}
 use Rattle.engine.proofs.RuleEnds.{after_ok, recording_after}
+use borrow.Author.Rules.{rules}
 use Rattle.engine.proofs.endings.rule_ok.Goals as goal
 
-pub close_rule-requires-clause-recording : goal.close_rule-requires-clause-recording
-close_rule-requires-clause-recording c = (recording_after c.args.tokens.now c.args.scratch.now c.track_rule.new.scratch c.args.room c.is_negative-due.result c.args.line c.args.rule c.args.position.0 c.args.n (fields c.args.s.now) (fields c.track_rule.new.s) c.track_rule.result c.in-Ok.is c.track_rule.ensures.0 c.requires.rule_ok_ready.0, c.requires.rule_ok_ready.2)
+pub close_rule-requires : goal.close_rule-requires
+close_rule-requires c = (
+  recording_after c.args.tokens.now c.args.scratch.now c.track_rule.new.scratch c.eq-due.result c.args.b.now c.args.s.now c.track_rule.new.s
+      c.in-Ok.is c.track_rule.ensures.0 c.requires.0,
+  c.requires.2,
+)
 
 pub returns-in-Ok : goal.returns-in-Ok
-returns-in-Ok c = let s : ParserState = fields c.args.s.now in
-    λ g h. after_ok g c.is_negative-due.result c.args.line c.args.rule c.args.position.0 c.args.n (view c.args.tokens.now c.args.scratch.now s) c.args.tokens.now c.track_rule.new.scratch (fields c.track_rule.new.s) c.track_rule.result _ c.in-Ok.is (c.track_rule.ensures.0 g c.args.tokens.now) c.args.index.0 _ (c.is_negative-due.ensures ∙ ap is_negative c.lookahead.ensures) (c.close_rule.ensures.state_after g c.track_rule.new.scratch h)
+returns-in-Ok c =
+    let due : c.eq-due.result ≡ is_negative c.args.s.now.lookahead = search rules in
+    λ g h.
+    after_ok g _ c.args.b.now _ c.args.tokens.now c.track_rule.new.scratch c.track_rule.new.s c.in-Ok.is (c.track_rule.ensures.0 g c.args.tokens.now) due
+    (c.close_rule.ensures.state_after g c.track_rule.new.scratch h)
 
 pub returns-in-Err : goal.returns-in-Err
-returns-in-Err c = let s : ParserState = fields c.args.s.now in
-    λ g h. after_ok g c.is_negative-due.result c.args.line c.args.rule c.args.position.0 c.args.n (view c.args.tokens.now c.args.scratch.now s) c.args.tokens.now c.track_rule.new.scratch (fields c.track_rule.new.s) c.track_rule.result _ c.in-Err.is (c.track_rule.ensures.0 g c.args.tokens.now) c.args.index.0 _ (c.is_negative-due.ensures ∙ ap is_negative c.lookahead.ensures) refl
+returns-in-Err c =
+    let due : c.eq-due.result ≡ is_negative c.args.s.now.lookahead = search rules in
+    λ g h.
+    after_ok g _ c.args.b.now _ c.args.tokens.now c.track_rule.new.scratch c.track_rule.new.s c.in-Err.is (c.track_rule.ensures.0 g c.args.tokens.now) due refl
 
 pub returns-in-Stop : goal.returns-in-Stop
-returns-in-Stop c = let s : ParserState = fields c.args.s.now in
-    λ g h. after_ok g c.is_negative-due.result c.args.line c.args.rule c.args.position.0 c.args.n (view c.args.tokens.now c.args.scratch.now s) c.args.tokens.now c.track_rule.new.scratch (fields c.track_rule.new.s) c.track_rule.result _ c.in-Stop.is (c.track_rule.ensures.0 g c.args.tokens.now) c.args.index.0 _ (c.is_negative-due.ensures ∙ ap is_negative c.lookahead.ensures) refl
+returns-in-Stop c =
+    let due : c.eq-due.result ≡ is_negative c.args.s.now.lookahead = search rules in
+    λ g h.
+    after_ok g _ c.args.b.now _ c.args.tokens.now c.track_rule.new.scratch c.track_rule.new.s c.in-Stop.is (c.track_rule.ensures.0 g c.args.tokens.now) due refl

@@ -3,56 +3,80 @@ use mathlib.Core.Path.{ap}
 use mathlib.Core.Bool.{not}
 use mathlib.Core.Path.{refl}
 use mathlib.Core.Logic.{⊎_elim}
-use mathlib.Core.Bool.{true, false}
 use native.Mathlib.Omega.{arith}
 use borrow.Author.Tests.{not-false}
 use Rattle.reading.specs.Pest.{set_position}
 use Rattle.reading.proofs.Accepted.{accepted}
 use Rattle.engine.proofs.LineSteps.{whole}
-use Rattle.engine.proofs.LeafSteps.{kind_low, first_onto, walked_halted, walked_done, last_ok, last_err, right_in, left_line, right_line, on_right, over_right, done_ok, done_err, walked_on}
+use Rattle.engine.proofs.LeafSteps.{kind_low, last_ok, last_err, right_in, left_line, right_line, on_right, over_right, done_ok}
+use Rattle.engine.proofs.LeafSteps.{done_err, walked_on}
 use Rattle.engine.proofs.leaves.walk.Goals as goal
 
-pub loop-n-init : goal.loop-n-init
-loop-n-init c = (c.requires.line, λ capacity d m f x. first_onto _ _ _ capacity d _ m _ c.requires.line f x)
-
-pub line_at-n-requires : goal.line_at-n-requires
-line_at-n-requires c = whole _ _ (accepted _ _ c.requires.accepted.0 c.requires.accepted.1) _ c.loop-n.invariant.0
-
-pub last-requires-clause-accepted : goal.last-requires-clause-accepted
-last-requires-clause-accepted c = c.requires.accepted
-
-pub last-requires-clause-line : goal.last-requires-clause-line
-last-requires-clause-line c = c.loop-n.invariant.0
-
 pub returns-then-not-is_fork : goal.returns-then-not-is_fork
-returns-then-not-is_fork c = λ capacity d m f x. walked_on _ _ _ capacity d _ m _ _ (c.loop-n.invariant.1 capacity d m f x) _ (c.last.ensures capacity d (set_position c.loop-n.position.0 m) (c.loop-n.invariant.1 capacity d m f x).fit refl)
+returns-then-not-is_fork c = λ d m f x.
+    let o = c.loop-n.invariant.1 d m f x in
+    walked_on _ _ _ _ d _ m _ _ o _ _ (c.last.ensures d (set_position c.loop-n.position.0 m) o.fit refl)
 
 pub line_at-m-requires : goal.line_at-m-requires
-line_at-m-requires c = whole _ _ (accepted _ _ c.requires.accepted.0 c.requires.accepted.1) _ (left_line _ _ (accepted _ _ c.requires.accepted.0 c.requires.accepted.1) _ c.loop-n.invariant.0 _ c.line_at-n.ensures ((c.is_fork.ensures.0 (not-false _ (ap not c.if-not-is_fork.false)))))
+line_at-m-requires c =
+    let a = accepted _ _ c.args.g.now.accepted.0 c.args.g.now.accepted.1 in
+    let f = c.is_fork.ensures.0 (not-false _ (ap not c.if-not-is_fork.false)) in
+    whole _ _ a _ (left_line _ _ a _ c.loop-n.invariant.0 _ c.line_at-n.ensures f)
 
-pub returns-then-m-gt5 : goal.returns-then-m-gt5
-returns-then-m-gt5 c = λ capacity d m f x. walked_halted _ _ _ capacity d _ m _ _ _ c.halted.ensures (c.loop-n.invariant.1 capacity d m f x)
-
-pub leaf-requires-clause-accepted : goal.leaf-requires-clause-accepted
-leaf-requires-clause-accepted c = c.requires.accepted
-
-pub leaf-requires-clause-line : goal.leaf-requires-clause-line
-leaf-requires-clause-line c = (left_line _ _ (accepted _ _ c.requires.accepted.0 c.requires.accepted.1) _ c.loop-n.invariant.0 _ c.line_at-n.ensures ((c.is_fork.ensures.0 (not-false _ (ap not c.if-not-is_fork.false)))), kind_low _ _ _ c.line_at-m.ensures (omega (arith, c.if-m-gt5.false)))
+pub leaf-requires : goal.leaf-requires
+leaf-requires c =
+    let a = accepted _ _ c.args.g.now.accepted.0 c.args.g.now.accepted.1 in
+    let f = c.is_fork.ensures.0 (not-false _ (ap not c.if-not-is_fork.false)) in
+    (left_line _ _ a _ c.loop-n.invariant.0 _ c.line_at-n.ensures f, kind_low _ _ _ c.line_at-m.ensures (omega (arith, c.if-m-gt5.false)))
 
 pub returns-then-n-eq7 : goal.returns-then-n-eq7
-returns-then-n-eq7 c = λ capacity d m f x. let o = c.loop-n.invariant.1 capacity d m f x in walked_done _ _ _ capacity d _ m _ _ _ true c.finished.ensures (done_ok _ _ (accepted _ _ c.requires.accepted.0 c.requires.accepted.1) _ c.loop-n.invariant.0 _ c.line_at-n.ensures ((c.is_fork.ensures.0 (not-false _ (ap not c.if-not-is_fork.false)))) _ capacity d _ m _ o (λ k. omega (arith, k, c.if-n-eq7.true)) _ (last_ok _ (set_position c.loop-n.position.0 m) _ _ (c.leaf.ensures capacity d (set_position c.loop-n.position.0 m) o.fit refl) c.in-At.is))
+returns-then-n-eq7 c =
+    let a = accepted _ _ c.args.g.now.accepted.0 c.args.g.now.accepted.1 in
+    let f = c.is_fork.ensures.0 (not-false _ (ap not c.if-not-is_fork.false)) in
+    λ d m fit x.
+    let o = c.loop-n.invariant.1 d m fit x in
+    done_ok _ _ a _ c.loop-n.invariant.0 _ c.line_at-n.ensures f _ _ d _ m _ o (λ k. omega (arith, k, c.if-n-eq7.true)) _
+    (last_ok _ (set_position c.loop-n.position.0 m) _ _ (c.leaf.ensures d (set_position c.loop-n.position.0 m) o.fit refl) c.in-Some.is)
 
 pub returns-then-n-eq6 : goal.returns-then-n-eq6
-returns-then-n-eq6 c = λ capacity d m f x. let o = c.loop-n.invariant.1 capacity d m f x in walked_done _ _ _ capacity d _ m _ _ _ false c.finished-then-n-eq6.ensures (done_err _ _ (accepted _ _ c.requires.accepted.0 c.requires.accepted.1) _ c.loop-n.invariant.0 _ c.line_at-n.ensures ((c.is_fork.ensures.0 (not-false _ (ap not c.if-not-is_fork.false)))) _ capacity d _ m _ o c.if-n-eq6.true (last_err _ (set_position c.loop-n.position.0 m) _ _ refl (c.leaf.ensures capacity d (set_position c.loop-n.position.0 m) o.fit refl) c.in-Failed.is))
+returns-then-n-eq6 c =
+    let a = accepted _ _ c.args.g.now.accepted.0 c.args.g.now.accepted.1 in
+    let f = c.is_fork.ensures.0 (not-false _ (ap not c.if-not-is_fork.false)) in
+    λ d m fit x.
+    let o = c.loop-n.invariant.1 d m fit x in
+    done_err _ _ a _ c.loop-n.invariant.0 _ c.line_at-n.ensures f _ _ d _ m _ o c.if-n-eq6.true
+    (last_err _ (set_position c.loop-n.position.0 m) _ _ refl (c.leaf.ensures d (set_position c.loop-n.position.0 m) o.fit refl) c.in-None.is)
 
 pub loop-n-smaller-else-n-eq7 : goal.loop-n-smaller-else-n-eq7
-loop-n-smaller-else-n-eq7 c = (right_in _ _ (accepted _ _ c.requires.accepted.0 c.requires.accepted.1) _ c.loop-n.invariant.0 _ c.line_at-n.ensures ((c.is_fork.ensures.0 (not-false _ (ap not c.if-not-is_fork.false))))).1
+loop-n-smaller-else-n-eq7 c =
+    let a = accepted _ _ c.args.g.now.accepted.0 c.args.g.now.accepted.1 in
+    let f = c.is_fork.ensures.0 (not-false _ (ap not c.if-not-is_fork.false)) in
+    (right_in _ _ a _ c.loop-n.invariant.0 _ c.line_at-n.ensures f).1
 
 pub loop-n-preserved-else-n-eq7 : goal.loop-n-preserved-else-n-eq7
-loop-n-preserved-else-n-eq7 c = (right_line _ _ (accepted _ _ c.requires.accepted.0 c.requires.accepted.1) _ c.loop-n.invariant.0 _ c.line_at-n.ensures ((c.is_fork.ensures.0 (not-false _ (ap not c.if-not-is_fork.false)))), λ capacity d m f x. let o = c.loop-n.invariant.1 capacity d m f x in on_right _ _ (accepted _ _ c.requires.accepted.0 c.requires.accepted.1) _ c.loop-n.invariant.0 _ c.line_at-n.ensures ((c.is_fork.ensures.0 (not-false _ (ap not c.if-not-is_fork.false)))) _ capacity d _ m _ o (⊎_elim (λ k. k) (λ k. absurd (c.if-n-eq7.false k)) ((c.is_fork.ensures.0 (not-false _ (ap not c.if-not-is_fork.false))))) _ (last_ok _ (set_position c.loop-n.position.0 m) _ _ (c.leaf.ensures capacity d (set_position c.loop-n.position.0 m) o.fit refl) c.in-At.is))
+loop-n-preserved-else-n-eq7 c =
+    let a = accepted _ _ c.args.g.now.accepted.0 c.args.g.now.accepted.1 in
+    let f = c.is_fork.ensures.0 (not-false _ (ap not c.if-not-is_fork.false)) in (
+      right_line _ _ a _ c.loop-n.invariant.0 _ c.line_at-n.ensures f,
+      λ d m fit x.
+          let o = c.loop-n.invariant.1 d m fit x in
+          on_right _ _ a _ c.loop-n.invariant.0 _ c.line_at-n.ensures f _ _ d _ m _ o (⊎_elim (λ k. k) (λ k. absurd (c.if-n-eq7.false k)) f) _
+          (last_ok _ (set_position c.loop-n.position.0 m) _ _ (c.leaf.ensures d (set_position c.loop-n.position.0 m) o.fit refl) c.in-Some.is),
+    )
 
 pub loop-n-smaller : goal.loop-n-smaller
-loop-n-smaller c = (right_in _ _ (accepted _ _ c.requires.accepted.0 c.requires.accepted.1) _ c.loop-n.invariant.0 _ c.line_at-n.ensures ((c.is_fork.ensures.0 (not-false _ (ap not c.if-not-is_fork.false))))).1
+loop-n-smaller c =
+    let a = accepted _ _ c.args.g.now.accepted.0 c.args.g.now.accepted.1 in
+    let f = c.is_fork.ensures.0 (not-false _ (ap not c.if-not-is_fork.false)) in
+    (right_in _ _ a _ c.loop-n.invariant.0 _ c.line_at-n.ensures f).1
 
 pub loop-n-preserved : goal.loop-n-preserved
-loop-n-preserved c = (right_line _ _ (accepted _ _ c.requires.accepted.0 c.requires.accepted.1) _ c.loop-n.invariant.0 _ c.line_at-n.ensures ((c.is_fork.ensures.0 (not-false _ (ap not c.if-not-is_fork.false)))), λ capacity d m f x. let o = c.loop-n.invariant.1 capacity d m f x in over_right _ _ (accepted _ _ c.requires.accepted.0 c.requires.accepted.1) _ c.loop-n.invariant.0 _ c.line_at-n.ensures ((c.is_fork.ensures.0 (not-false _ (ap not c.if-not-is_fork.false)))) _ capacity d _ m _ o c.if-n-eq6.false (last_err _ (set_position c.loop-n.position.0 m) _ _ refl (c.leaf.ensures capacity d (set_position c.loop-n.position.0 m) o.fit refl) c.in-Failed.is))
+loop-n-preserved c =
+    let a = accepted _ _ c.args.g.now.accepted.0 c.args.g.now.accepted.1 in
+    let f = c.is_fork.ensures.0 (not-false _ (ap not c.if-not-is_fork.false)) in (
+      right_line _ _ a _ c.loop-n.invariant.0 _ c.line_at-n.ensures f,
+      λ d m fit x.
+          let o = c.loop-n.invariant.1 d m fit x in
+          over_right _ _ a _ c.loop-n.invariant.0 _ c.line_at-n.ensures f _ _ d _ m _ o c.if-n-eq6.false
+          (last_err _ (set_position c.loop-n.position.0 m) _ _ refl (c.leaf.ensures d (set_position c.loop-n.position.0 m) o.fit refl) c.in-None.is),
+    )

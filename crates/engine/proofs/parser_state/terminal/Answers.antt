@@ -1,75 +1,50 @@
 -- In each arm the kind is known; the leaf answers what the tree of that kind does.
-use mathlib.Core.Path.{◌∙◌}
 use native.Mathlib.Omega.{arith}
-use Rattle.engine.specs.Fields.{fields}
 use Rattle.checks.proofs.FieldLaws.{back}
-use Rattle.engine.proofs.Steps.{placed, state_of, place_of, tests}
-use Rattle.engine.proofs.LineSteps.{whole, few}
+use Rattle.engine.proofs.Steps.{state_of, place_of, tests}
 use Rattle.engine.proofs.TerminalSteps.{tag_low, leaf_of, end_15, end_16, end_17, end_19}
+use borrow.Author.Rules.{rules}
 use Rattle.engine.proofs.parser_state.terminal.Goals as goal
 
-pub line_at-n-requires : goal.line_at-n-requires
-line_at-n-requires c = whole _ _ (tests _ _ _ _ c.requires.ready.0) _ c.requires.line.0
+pub stack_pop-requires : goal.stack_pop-requires
+stack_pop-requires c = state_of _ _ _ _ c.args.s.now c.requires.ready
 
-pub overflow_cast-line : goal.overflow_cast-line
-overflow_cast-line c = let h = few _ _ (tests _ _ _ _ c.requires.ready.0) _ c.requires.line.0 in omega arith
+pub stack_match_peek_slice-requires : goal.stack_match_peek_slice-requires
+stack_match_peek_slice-requires c = (state_of _ _ _ _ c.args.s.now c.requires.ready).stack
 
-pub stack_pop-requires-clause-state_size_in_bounds : goal.stack_pop-requires-clause-state_size_in_bounds
-stack_pop-requires-clause-state_size_in_bounds c = c.requires.ready.1
-
-pub stack_pop-requires-clause-state_ready : goal.stack_pop-requires-clause-state_ready
-stack_pop-requires-clause-state_ready c = state_of _ _ _ _ _ _ _ (fields c.args.s.now) c.requires.ready.0
-
-pub ends_at-e-requires : goal.ends_at-e-requires
-ends_at-e-requires c = whole _ _ (tests _ _ _ _ c.requires.ready.0) _ c.requires.line.0
-
-pub stack_match_peek_slice-requires-clause-state_size_in_bounds : goal.stack_match_peek_slice-requires-clause-state_size_in_bounds
-stack_match_peek_slice-requires-clause-state_size_in_bounds c = c.requires.ready.1
-
-pub stack_match_peek_slice-requires-clause-stack_ready : goal.stack_match_peek_slice-requires-clause-stack_ready
-stack_match_peek_slice-requires-clause-stack_ready c = (state_of _ _ _ _ _ _ _ (fields c.args.s.now) c.requires.ready.0).stack
-
-pub overflow_cast-line-in-17 : goal.overflow_cast-line-in-17
-overflow_cast-line-in-17 c = let h = few _ _ (tests _ _ _ _ c.requires.ready.0) _ c.requires.line.0 in omega arith
-
-pub stack_match_pop-requires-clause-state_size_in_bounds : goal.stack_match_pop-requires-clause-state_size_in_bounds
-stack_match_pop-requires-clause-state_size_in_bounds c = c.requires.ready.1
-
-pub stack_match_pop-requires-clause-state_ready : goal.stack_match_pop-requires-clause-state_ready
-stack_match_pop-requires-clause-state_ready c = state_of _ _ _ _ _ _ _ (fields c.args.s.now) c.requires.ready.0
+pub stack_match_pop-requires : goal.stack_match_pop-requires
+stack_match_pop-requires c = state_of _ _ _ _ c.args.s.now c.requires.ready
 
 pub overflow_cast-n : goal.overflow_cast-n
-overflow_cast-n c = let h = tag_low _ _ (tests _ _ _ _ c.requires.ready.0) _ c.requires.line.0 _ c.line_at-n.ensures c.in-19.is in omega arith
+overflow_cast-n c =
+    let h = tag_low _ _ (tests _ _ _ _ c.requires.ready) _ c.requires.line.0 _ c.line_at-n.ensures c.in-19.is in
+    omega arith
 
-pub tag_node-requires-clause-state_size_in_bounds : goal.tag_node-requires-clause-state_size_in_bounds
-tag_node-requires-clause-state_size_in_bounds c = c.requires.ready.1
+pub tag_node-requires : goal.tag_node-requires
+tag_node-requires c = omega (arith, place_of _ _ _ _ c.args.s.now c.requires.ready, c.requires.ready.area)
 
-pub tag_node-requires-clause-queue_fits : goal.tag_node-requires-clause-queue_fits
-tag_node-requires-clause-queue_fits c = omega (arith, place_of _ _ _ _ _ _ _ (fields c.args.s.now) c.requires.ready.0, c.requires.ready.0.area)
-
-pub position-p-requires : goal.position-p-requires
-position-p-requires c = c.requires.ready.1
-
-pub leaf-requires-clause-accepted : goal.leaf-requires-clause-accepted
-leaf-requires-clause-accepted c = (c.requires.ready.0.fitting, c.requires.ready.0.moving)
-
-pub leaf-requires-clause-line : goal.leaf-requires-clause-line
-leaf-requires-clause-line c = (c.requires.line.0, leaf_of _ _ (tests _ _ _ _ c.requires.ready.0) _ c.requires.line.0 _ c.line_at-n.ensures c.requires.line.1 c.requires.line.2 c.in_default.in_default-own.rest)
-
-pub moved-requires : goal.moved-requires
-moved-requires c = c.requires.ready.1
+pub leaf-requires : goal.leaf-requires
+leaf-requires c =
+    let w = tests _ _ _ _ c.requires.ready in
+    (c.requires.line.0, leaf_of _ _ w _ c.requires.line.0 _ c.line_at-n.ensures c.requires.line.1 c.requires.line.2 (search rules))
 
 pub returns-in-15 : goal.returns-in-15
-returns-in-15 c = end_15 _ _ _ _ _ (tests _ _ _ _ c.requires.ready.0) _ c.requires.line.0 _ c.line_at-n.ensures c.in-15.is _ _ (c.stack_pop.ensures.state_after c.args.tokens.now)
+returns-in-15 c =
+    end_15 _ _ _ _ _ (tests _ _ _ _ c.requires.ready) _ c.requires.line.0 _ c.line_at-n.ensures c.in-15.is
+    _ _ (c.stack_pop.ensures.state_after c.args.tokens.now)
 
 pub returns-in-16 : goal.returns-in-16
-returns-in-16 c = end_16 _ _ _ _ _ (tests _ _ _ _ c.requires.ready.0) _ c.requires.line.0 _ c.line_at-n.ensures c.in-16.is c.ends_at-e.result c.ends_at-e.ensures _ _ (back c.ends_at-e.result.start (record { sfits = c.struct_told-1.given.0.1 })) (back c.ends_at-e.result.end (record { sfits = c.struct_told-1.given.1.0.1 })) _ _ (c.stack_match_peek_slice.ensures c.args.tokens.now)
+returns-in-16 c =
+    end_16 _ _ _ _ _ (tests _ _ _ _ c.requires.ready) _ c.requires.line.0 _ c.line_at-n.ensures c.in-16.is
+    c.ends_at-e.result c.ends_at-e.ensures _ _ (back c.ends_at-e.result.start (record { sfits = c.struct_told-1.given.0.1 }))
+    (back c.ends_at-e.result.end (record { sfits = c.struct_told-1.given.1.0.1 })) _ _ (c.stack_match_peek_slice.ensures c.args.tokens.now)
 
 pub returns-in-17 : goal.returns-in-17
-returns-in-17 c = end_17 _ _ _ _ _ (tests _ _ _ _ c.requires.ready.0) _ c.requires.line.0 _ c.line_at-n.ensures c.in-17.is _ _ (c.stack_match_pop.ensures.state_after c.args.tokens.now)
+returns-in-17 c =
+    end_17 _ _ _ _ _ (tests _ _ _ _ c.requires.ready) _ c.requires.line.0 _ c.line_at-n.ensures c.in-17.is
+    _ _ (c.stack_match_pop.ensures.state_after c.args.tokens.now)
 
 pub returns-in-19 : goal.returns-in-19
-returns-in-19 c = end_19 _ _ _ _ _ (tests _ _ _ _ c.requires.ready.0) _ c.requires.line.0 _ c.line_at-n.ensures c.in-19.is _ _ (c.tag_node.ensures.state_after c.args.scratch.now)
-
-pub returns-in_default : goal.returns-in_default
-returns-in_default c = c.moved.ensures c.args.tokens.now c.args.scratch.now ∙ c.leaf.ensures _ _ _ c.requires.ready.0.fit (placed c.position-p.ensures)
+returns-in-19 c =
+    end_19 _ _ _ _ _ (tests _ _ _ _ c.requires.ready) _ c.requires.line.0 _ c.line_at-n.ensures c.in-19.is
+    _ _ (c.tag_node.ensures.state_after c.args.scratch.now)

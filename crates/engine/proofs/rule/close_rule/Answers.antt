@@ -1,22 +1,48 @@
 -- The Start gets its partner and an End is pushed, there is no room for it, or the rule is not recorded.
-use mathlib.Core.Path.{◌≡◌, ap, sym, ◌∙◌}
-use mathlib.Core.Bool.{true, false}
+use mathlib.Core.Path.{refl, ◌≡◌, ap, sym, ◌∙◌}
+use mathlib.Core.Bool.{true, false, not}
 use mathlib.Core.List.{List}
 use Prim.Native.Nat.{ℕ}
-use Rattle.engine.specs.Fields.{ParserState, fields}
+use Rattle.engine.specs.declared.parser_state.ParserState.{ParserState}
 use Rattle.reading.specs.Ending.{Ok}
 use Rattle.reading.specs.Pest as Pest
 use Rattle.reading.specs.Pest.{produces, End}
 use Rattle.engine.specs.Areas.{view}
 use Rattle.engine.specs.Tokens.{Paired, Pushed}
 use Rattle.engine.proofs.RuleLaws.{close_ok, close_full, close_off, paired_queue, paired_at, pushed_at, one_more, room_yes, room_no}
+use Rattle.engine.proofs.Steps.{passed_test, refused_test}
 use Rattle.engine.proofs.rule.close_rule.Goals as goal
 
-pub returns-then-n-room-clause-state_after : goal.returns-then-n-room-clause-state_after
-returns-then-n-room-clause-state_after c = let a : List ℕ = c.args.tokens.now in let b : List ℕ = c.pair_up.new.tokens in let d : List ℕ = c.push_end.new.tokens in let s : ParserState = fields c.args.s.now in let i : ℕ = c.args.index.0 in let on : ((scratch : List ℕ) → produces (view a scratch s) ≡ true) = λ scratch. sym (c.produces.ensures a scratch) ∙ c.if-produces.true in let pair : Paired a i s.queue.0 b = paired_at a b s _ i c.queue-n.ensures c.pair_up.ensures in let push : Pushed b s.queue.0 (End i c.args.rule 0 s.position.0) d = pushed_at b d s _ _ (End i c.args.rule 0) c.queue-n.ensures c.position-p.ensures c.push_end.ensures in λ g scratch e. ap (λ (m : Pest.ParserState). Ok m) (one_more d scratch s _ _ c.queue-n.ensures c.set_queue.ensures) ∙ close_ok g c.args.line c.args.rule i (view a scratch s) _ _ (on scratch) (room_yes a _ _ c.queue-n.ensures c.args.room g.capacity e c.if-n-room.true) (paired_queue a b i s.queue.0 pair) push.queue
+pub returns-then-not-produces-clause-state_after : goal.returns-then-not-produces-clause-state_after
+returns-then-not-produces-clause-state_after c =
+    let a : List ℕ = c.args.tokens.now in
+    let s : ParserState = c.args.s.now in
+    let off : ((scratch : List ℕ) → produces (view a scratch s) ≡ false) =
+    λ scratch. sym (c.produces.ensures a scratch) ∙ refused_test _ (ap not c.if-not-produces.true) in
+    λ g scratch e. close_off g c.args.b.now.line c.args.b.now.rule c.args.b.now.index.0 (view a scratch s) (off scratch)
 
-pub returns-else-n-room-clause-state_after : goal.returns-else-n-room-clause-state_after
-returns-else-n-room-clause-state_after c = let a : List ℕ = c.args.tokens.now in let s : ParserState = fields c.args.s.now in let on : ((scratch : List ℕ) → produces (view a scratch s) ≡ true) = λ scratch. sym (c.produces.ensures a scratch) ∙ c.if-produces.true in λ g scratch e. close_full g c.args.line c.args.rule c.args.index.0 (view a scratch s) (on scratch) (room_no a _ _ c.queue-n.ensures c.args.room g.capacity e c.if-n-room.false)
+pub returns-then-room-n-clause-state_after : goal.returns-then-room-n-clause-state_after
+returns-then-room-n-clause-state_after c =
+    let a : List ℕ = c.args.tokens.now in
+    let s : ParserState = c.args.s.now in
+    let on : ((scratch : List ℕ) → produces (view a scratch s) ≡ true) =
+    λ scratch. sym (c.produces.ensures a scratch) ∙ passed_test _ (ap not c.if-not-produces.false) in
+    λ g scratch e.
+    close_full g c.args.b.now.line c.args.b.now.rule c.args.b.now.index.0 (view a scratch s) (on scratch)
+    (room_no a _ _ refl c.args.room g.capacity e c.if-room-n.true)
 
-pub returns-else-produces-clause-state_after : goal.returns-else-produces-clause-state_after
-returns-else-produces-clause-state_after c = let a : List ℕ = c.args.tokens.now in let s : ParserState = fields c.args.s.now in let off : ((scratch : List ℕ) → produces (view a scratch s) ≡ false) = λ scratch. sym (c.produces.ensures a scratch) ∙ c.if-produces.false in λ g scratch e. close_off g c.args.line c.args.rule c.args.index.0 (view a scratch s) (off scratch)
+pub returns-clause-state_after : goal.returns-clause-state_after
+returns-clause-state_after c =
+    let a : List ℕ = c.args.tokens.now in
+    let b : List ℕ = c.pair_up.new.tokens in
+    let d : List ℕ = c.push_end.new.tokens in
+    let s : ParserState = c.args.s.now in
+    let i : ℕ = c.args.b.now.index.0 in
+    let on : ((scratch : List ℕ) → produces (view a scratch s) ≡ true) =
+    λ scratch. sym (c.produces.ensures a scratch) ∙ passed_test _ (ap not c.if-not-produces.false) in
+    let pair : Paired a i s.queue.0 b = paired_at a b s _ i refl c.pair_up.ensures in
+    let push : Pushed b s.queue.0 (End i c.args.b.now.rule 0 s.position.0) d = pushed_at b d s _ _ (End i c.args.b.now.rule 0) refl refl c.push_end.ensures in
+    λ g scratch e.
+    ap (λ (m : Pest.ParserState). Ok m) (one_more d scratch s _ _ refl refl) ∙ close_ok g c.args.b.now.line c.args.b.now.rule i
+    (view a scratch s) _ _ (on scratch)
+    (room_yes a _ _ refl c.args.room g.capacity e c.if-room-n.false) (paired_queue a b i s.queue.0 pair) push.queue

@@ -1,31 +1,30 @@
 -- The queue is cut, is short already, or is not the rule's.
-use mathlib.Core.Path.{◌≡◌, ap, sym, ◌∙◌}
-use mathlib.Core.Bool.{true}
-use mathlib.Core.List.{List}
+use mathlib.Core.Path.{sym, ◌∙◌}
 use Prim.Native.Nat.{ℕ}
-use Rattle.matching.specs.declared.position.TokenIndex.{TokenIndex}
-use Rattle.engine.specs.Fields.{ParserState, fields}
-use Rattle.reading.specs.Pest.{produces}
+use Rattle.engine.specs.declared.parser_state.ParserState.{ParserState}
 use Rattle.engine.specs.Areas.{view, queue_of}
 use Rattle.engine.proofs.TokenLaws.{queue_take, queue_length}
 use Rattle.engine.proofs.RuleLaws.{drop_some, drop_none, drop_off}
 use native.Mathlib.Omega.{arith}
+use Rattle.engine.proofs.rule.drop_rule.Goals.{else-produces-via-then-produces+else-index-s, else-produces-via-else-produces}
 use Rattle.engine.proofs.rule.drop_rule.Goals as goal
 
-pub returns-then-index-n : goal.returns-then-index-n
-returns-then-index-n c = let s : ParserState = fields c.args.s.now in
+pub returns-then-index-s : goal.returns-then-index-s
+returns-then-index-s c =
+    let s : ParserState = c.args.s.now in
     let i : ℕ = c.args.index.0 in
-    let read : c.queue-n.result.0 ≡ s.queue.0 = ap (λ (n : TokenIndex). n.0) c.queue-n.ensures in
-    let on : ((tokens scratch : List ℕ) → produces (view tokens scratch s) ≡ true) = λ tokens scratch. sym (c.produces.ensures tokens scratch) ∙ c.if-produces.true in
-    λ tokens scratch. ap (view tokens scratch) c.set_queue.ensures ∙ drop_some i (view tokens scratch s) (queue_of tokens i) (on tokens scratch) (sym (queue_take tokens s.queue.0 i (omega (arith, c.if-index-n.true))))
-
-pub returns-else-index-n : goal.returns-else-index-n
-returns-else-index-n c = let s : ParserState = fields c.args.s.now in
-    let i : ℕ = c.args.index.0 in
-    let read : c.queue-n.result.0 ≡ s.queue.0 = ap (λ (n : TokenIndex). n.0) c.queue-n.ensures in
-    let on : ((tokens scratch : List ℕ) → produces (view tokens scratch s) ≡ true) = λ tokens scratch. sym (c.produces.ensures tokens scratch) ∙ c.if-produces.true in
-    λ tokens scratch. drop_none i (view tokens scratch s) (on tokens scratch) (omega (arith, queue_length tokens s.queue.0, c.if-index-n.false))
+    λ tokens scratch.
+    drop_some i (view tokens scratch s) (queue_of tokens i) (sym (c.produces.ensures tokens scratch) ∙ c.if-produces.true)
+    (sym (queue_take tokens s.queue.0 i (omega (arith, c.if-index-s.true))))
 
 pub returns-else-produces : goal.returns-else-produces
-returns-else-produces c = let s : ParserState = fields c.args.s.now in
-    λ tokens scratch. drop_off c.args.index.0 (view tokens scratch s) (sym (c.produces.ensures tokens scratch) ∙ c.if-produces.false)
+returns-else-produces c =
+    let s : ParserState = c.args.s.now in
+    elim c.else-produces.branch [
+      | else-produces-via-then-produces+else-index-s w ↦
+          λ tokens scratch.
+          drop_none c.args.index.0 (view tokens scratch s) (sym (c.produces.ensures tokens scratch) ∙ w.if-produces.true)
+          (omega (arith, queue_length tokens s.queue.0, w.if-index-s.false))
+      | else-produces-via-else-produces w ↦ λ tokens scratch. drop_off c.args.index.0 (view tokens scratch s)
+          (sym (c.produces.ensures tokens scratch) ∙ w.if-produces.false)
+    ]

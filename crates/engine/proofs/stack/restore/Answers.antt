@@ -6,9 +6,6 @@ use Rattle.engine.proofs.stack.restore.Goals as goal
 pub returns-then-c-eq0-clause-state_after : goal.returns-then-c-eq0-clause-state_after
 returns-then-c-eq0-clause-state_after c = (restore_none c.args.scratch.now c.args.s c.requires c.if-c-eq0.true).0
 
-pub returns-then-c-eq0-clause-outside_stack : goal.returns-then-c-eq0-clause-outside_stack
-returns-then-c-eq0-clause-outside_stack c = (restore_none c.args.scratch.now c.args.s c.requires c.if-c-eq0.true).1
-
 pub overflow_sub-n : goal.overflow_sub-n
 overflow_sub-n c = let t = top_is c.args.scratch.now c.args.s c.requires c.if-c-eq0.false _ c.pair_at-top.ensures in omega arith
 

@@ -1,13 +1,9 @@
 -- Only the stack of the state changed.
+use mathlib.Core.Path.{refl}
 use Rattle.reading.specs.Pest.{clear_snapshot}
-use Rattle.engine.proofs.StateSteps.{stack_read, stack_changed}
+use Rattle.engine.proofs.StateSteps.{stack_changed}
 use Rattle.engine.proofs.stack_state.checkpoint_ok.Goals as goal
 
-pub clear_snapshot-w-requires : goal.clear_snapshot-w-requires
-clear_snapshot-w-requires c = stack_read c.stack-v.ensures c.requires.state_ready
-
 pub returns-clause-state_after : goal.returns-clause-state_after
-returns-clause-state_after c = (stack_changed clear_snapshot _ c.requires.state_ready c.stack-v.ensures (c.clear_snapshot-w.ensures.state_after, c.clear_snapshot-w.ensures.outside_stack) c.set_stack.ensures).0
-
-pub returns-clause-outside_stack : goal.returns-clause-outside_stack
-returns-clause-outside_stack c = (stack_changed clear_snapshot _ c.requires.state_ready c.stack-v.ensures (c.clear_snapshot-w.ensures.state_after, c.clear_snapshot-w.ensures.outside_stack) c.set_stack.ensures).1
+returns-clause-state_after c =
+    (stack_changed clear_snapshot _ c.requires refl (c.clear_snapshot-s.ensures.state_after, c.clear_snapshot-s.ensures.outside_stack) refl).0

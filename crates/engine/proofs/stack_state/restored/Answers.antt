@@ -1,13 +1,8 @@
 -- Only the stack of the state changed.
+use mathlib.Core.Path.{refl}
 use Rattle.reading.specs.Pest.{restore}
-use Rattle.engine.proofs.StateSteps.{stack_read, stack_changed}
+use Rattle.engine.proofs.StateSteps.{stack_changed}
 use Rattle.engine.proofs.stack_state.restored.Goals as goal
 
-pub restore-w-requires : goal.restore-w-requires
-restore-w-requires c = stack_read c.stack-v.ensures c.requires.state_ready
-
 pub returns-clause-state_after : goal.returns-clause-state_after
-returns-clause-state_after c = (stack_changed restore _ c.requires.state_ready c.stack-v.ensures (c.restore-w.ensures.state_after, c.restore-w.ensures.outside_stack) c.set_stack.ensures).0
-
-pub returns-clause-outside_stack : goal.returns-clause-outside_stack
-returns-clause-outside_stack c = (stack_changed restore _ c.requires.state_ready c.stack-v.ensures (c.restore-w.ensures.state_after, c.restore-w.ensures.outside_stack) c.set_stack.ensures).1
+returns-clause-state_after c = (stack_changed restore _ c.requires refl (c.restore-s.ensures.state_after, c.restore-s.ensures.outside_stack) refl).0

@@ -1,38 +1,32 @@
 -- Either index outside, an empty slice, or the slice matched: one law of StateSteps for each.
-use mathlib.Core.Path.{ap, ◌∙◌}
+use mathlib.Core.Path.{refl, ap, ◌∙◌}
 use lib.IntN.{ℤ}
 use Rattle.reading.specs.Reading.{index_in, end_in}
-use Rattle.engine.specs.Fields.{fields}
-use Rattle.checks.specs.PeekIndex.{index_of}
 use Rattle.checks.proofs.FieldLaws.{back}
-use Rattle.engine.proofs.StateSteps.{end_of, start_out, end_out, end_below, slice_empty, slice_moved}
+use Rattle.engine.proofs.StateSteps.{end_of, start_out, end_out, slice_empty, slice_moved}
 use Rattle.engine.proofs.stack_state.stack_match_peek_slice.Goals as goal
 
 pub returns-in_default : goal.returns-in_default
-returns-in_default c = start_out c.args.text.now c.args.scratch.now c.args.a c.args.b c.args.c (fields c.args.s.now) _ c.stack-v.ensures
-    _ (c.normalize_index.ensures ∙ ap (λ (z : ℤ). index_of (index_in c.stack-v.result.height z)) (back _ c.ranges.a)) c.in_default.is
+returns-in_default c =
+    let first = c.normalize_index.ensures ∙ ap (λ (z : ℤ). index_in c.args.s.now.stack.height z) (back _ c.ranges.a) in
+    start_out c.args.text.now c.args.scratch.now c.args.a c.args.b c.args.c c.args.s.now _ refl first c.in_default.is
 
 pub returns-in_default-normalize_end : goal.returns-in_default-normalize_end
-returns-in_default-normalize_end c = end_out c.args.text.now c.args.scratch.now c.args.a c.args.b c.args.c (fields c.args.s.now) _ c.stack-v.ensures
-    _ (c.normalize_index.ensures ∙ ap (λ (z : ℤ). index_of (index_in c.stack-v.result.height z)) (back _ c.ranges.a)) _ c.in-At.is
-    _ (c.normalize_end.ensures ∙ ap (λ (z : ℤ). index_of (end_in c.stack-v.result.height (end_of c.args.c z))) (back _ c.ranges.b)) c.in_default-normalize_end.is
+returns-in_default-normalize_end c =
+    let first = c.normalize_index.ensures ∙ ap (λ (z : ℤ). index_in c.args.s.now.stack.height z) (back _ c.ranges.a) in
+    let last = c.normalize_end.ensures ∙ ap (λ (z : ℤ). end_in c.args.s.now.stack.height (end_of c.args.c z)) (back _ c.ranges.b) in
+    end_out c.args.text.now c.args.scratch.now c.args.a c.args.b c.args.c c.args.s.now _ refl first c.in-Some.is last c.in_default-normalize_end.is
 
 pub returns-then-end-start : goal.returns-then-end-start
-returns-then-end-start c = slice_empty c.args.text.now c.args.scratch.now c.args.a c.args.b c.args.c (fields c.args.s.now) _ c.stack-v.ensures
-    _ (c.normalize_index.ensures ∙ ap (λ (z : ℤ). index_of (index_in c.stack-v.result.height z)) (back _ c.ranges.a)) _ c.in-At.is
-    _ (c.normalize_end.ensures ∙ ap (λ (z : ℤ). index_of (end_in c.stack-v.result.height (end_of c.args.c z))) (back _ c.ranges.b)) _ c.in-At-normalize_end.is
+returns-then-end-start c =
+    let first = c.normalize_index.ensures ∙ ap (λ (z : ℤ). index_in c.args.s.now.stack.height z) (back _ c.ranges.a) in
+    let last = c.normalize_end.ensures ∙ ap (λ (z : ℤ). end_in c.args.s.now.stack.height (end_of c.args.c z)) (back _ c.ranges.b) in
+    slice_empty c.args.text.now c.args.scratch.now c.args.a c.args.b c.args.c c.args.s.now _ refl first c.in-Some.is last c.in-Some-normalize_end.is
     c.if-end-start.true
 
-pub match_slice-requires : goal.match_slice-requires
-match_slice-requires c = (
-  rw c.stack-v.ensures c.requires.stack_ready,
-  end_below c.args.text.now c.args.scratch.now c.args.a c.args.b c.args.c (fields c.args.s.now) _ c.stack-v.ensures
-      _ (c.normalize_index.ensures ∙ ap (λ (z : ℤ). index_of (index_in c.stack-v.result.height z)) (back _ c.ranges.a)) _ c.in-At.is
-      _ (c.normalize_end.ensures ∙ ap (λ (z : ℤ). index_of (end_in c.stack-v.result.height (end_of c.args.c z))) (back _ c.ranges.b)) _ c.in-At-normalize_end.is,
-)
-
 pub returns : goal.returns
-returns c = slice_moved c.args.text.now c.args.scratch.now c.args.a c.args.b c.args.c (fields c.args.s.now) _ c.stack-v.ensures
-    _ (c.normalize_index.ensures ∙ ap (λ (z : ℤ). index_of (index_in c.stack-v.result.height z)) (back _ c.ranges.a)) _ c.in-At.is
-    _ (c.normalize_end.ensures ∙ ap (λ (z : ℤ). index_of (end_in c.stack-v.result.height (end_of c.args.c z))) (back _ c.ranges.b)) _ c.in-At-normalize_end.is
-    c.if-end-start.false _ c.is_top_down-down.ensures c.position-p.ensures _ c.match_slice.ensures _ c.moved.result c.moved.ensures
+returns c =
+    let first = c.normalize_index.ensures ∙ ap (λ (z : ℤ). index_in c.args.s.now.stack.height z) (back _ c.ranges.a) in
+    let last = c.normalize_end.ensures ∙ ap (λ (z : ℤ). end_in c.args.s.now.stack.height (end_of c.args.c z)) (back _ c.ranges.b) in
+    slice_moved c.args.text.now c.args.scratch.now c.args.a c.args.b c.args.c c.args.s.now _ refl first c.in-Some.is last c.in-Some-normalize_end.is
+    c.if-end-start.false _ c.is_top_down-down.ensures refl _ c.match_slice.ensures _ c.moved.result c.moved.ensures

@@ -4,24 +4,23 @@ use native.Mathlib.Omega.{arith}
 use Rattle.matching.proofs.Steps.{ascii, inside, utf8_more, utf8_fails, utf8_done}
 use Rattle.matching.proofs.utf8.is_utf8.Goals as goal
 
-pub loop-at-init : goal.loop-at-init
-loop-at-init c = (omega arith, refl)
-
 pub loop-at-preserved-then-s-at-lt128 : goal.loop-at-preserved-then-s-at-lt128
-loop-at-preserved-then-s-at-lt128 c = (omega arith, sym (utf8_more c.args.s.now c.loop-at.at _ _ (ascii c.args.s.now c.loop-at.at _ c.loop-at-test.true refl c.if-s-at-lt128.true)) ∙ c.loop-at.invariant.1)
+loop-at-preserved-then-s-at-lt128 c =
+    let e = ascii c.args.s.now c.loop-at.at _ c.loop-at-test.true refl c.if-s-at-lt128.true in
+    (omega arith, sym (utf8_more c.args.s.now c.loop-at.at _ e) ∙ c.loop-at.invariant.1)
 
 pub returns-in_default : goal.returns-in_default
-returns-in_default c = sym (utf8_fails c.args.s.now c.loop-at.at (sym c.char_at.ensures ∙ c.in_default.is) c.loop-at-test.true) ∙ c.loop-at.invariant.1
+returns-in_default c = sym (utf8_fails c.args.s.now c.loop-at.at (sym c.in_default.ensures) c.loop-at-test.true) ∙ c.loop-at.invariant.1
 
 pub overflow_add-at-in-loop-at : goal.overflow_add-at-in-loop-at
-overflow_add-at-in-loop-at c = omega (arith, inside c.args.s.now c.loop-at.at _ _ (sym c.char_at.ensures ∙ c.in-Of.is))
+overflow_add-at-in-loop-at c = omega (arith, inside c.args.s.now c.loop-at.at _ (sym c.in-Some.ensures))
 
 pub loop-at-smaller : goal.loop-at-smaller
-loop-at-smaller c = omega (arith, inside c.args.s.now c.loop-at.at _ _ (sym c.char_at.ensures ∙ c.in-Of.is))
+loop-at-smaller c = omega (arith, inside c.args.s.now c.loop-at.at _ (sym c.in-Some.ensures))
 
 pub loop-at-preserved : goal.loop-at-preserved
-loop-at-preserved c = let e = sym c.char_at.ensures ∙ c.in-Of.is in
-    ((inside c.args.s.now c.loop-at.at _ _ e).all_there, sym (utf8_more c.args.s.now c.loop-at.at _ _ e) ∙ c.loop-at.invariant.1)
+loop-at-preserved c = let e = sym c.in-Some.ensures in
+    ((inside c.args.s.now c.loop-at.at _ e).all_there, sym (utf8_more c.args.s.now c.loop-at.at _ e) ∙ c.loop-at.invariant.1)
 
 pub returns : goal.returns
 returns c = sym (utf8_done c.args.s.now c.loop-at.at c.loop-at-test.false) ∙ c.loop-at.invariant.1

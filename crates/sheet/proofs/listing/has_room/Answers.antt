@@ -2,14 +2,14 @@
 use Rattle.sheet.proofs.ListingLaws.{left_all, left_short, left_more, left_end}
 use Rattle.sheet.proofs.listing.has_room.Goals as goal
 
-pub loop-i-init : goal.loop-i-init
-loop-i-init c = left_all _ _
+pub loop-n-init : goal.loop-n-init
+loop-n-init c = left_all _ _
 
 pub returns-then-left-w : goal.returns-then-left-w
-returns-then-left-w c = left_short _ _ _ _ _ c.loop-i.invariant c.loop-i-test.true c.width-w.ensures c.if-left-w.true
+returns-then-left-w c = left_short _ _ _ _ _ c.loop-n.invariant c.loop-n-test.true c.width-w.ensures c.if-left-w.true
 
-pub loop-i-preserved : goal.loop-i-preserved
-loop-i-preserved c = left_more _ _ _ _ _ c.loop-i.invariant c.loop-i-test.true c.width-w.ensures c.if-left-w.false
+pub loop-n-preserved : goal.loop-n-preserved
+loop-n-preserved c = left_more _ _ _ _ _ c.loop-n.invariant c.loop-n-test.true c.width-w.ensures c.if-left-w.false
 
 pub returns : goal.returns
-returns c = left_end _ _ _ _ c.loop-i.invariant c.loop-i-test.false
+returns c = left_end _ _ _ _ c.loop-n.invariant c.loop-n-test.false

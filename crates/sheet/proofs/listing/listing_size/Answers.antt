@@ -1,7 +1,7 @@
 -- `listing_size` sums what each line took of an area that holds any line.
 use mathlib.Core.Path.{refl}
 use native.Mathlib.Omega.{arith}
-use Rattle.sheet.proofs.WholeLaws.{Numbers, sized_head, sized_small, sized_line, sized_more, sized_all}
+use Rattle.sheet.proofs.WholeLaws.{Numbers, sized_head, sized_small, sized_more, sized_all}
 use Rattle.sheet.proofs.listing.listing_size.Goals as goal
 
 pub loop-k-init : goal.loop-k-init
@@ -20,13 +20,10 @@ pub slice_bounds-write_later-end : goal.slice_bounds-write_later-end
 slice_bounds-write_later-end c = c.loop-k.invariant.1.room
 
 pub overflow_add-size : goal.overflow_add-size
-overflow_add-size c = omega (arith, sized_small _ _ _ _ _ _ (sized_more _ _ _ _ _ _ c.loop-k.invariant.1 _ _ (omega arith) c.write_later-n.auto.out c.write_later-n.ensures))
-
-pub overflow_add-k : goal.overflow_add-k
-overflow_add-k c = omega (arith, c.loop-k.invariant.0, sized_line _ _ _ _ _ _ c.loop-k.invariant.1)
+overflow_add-size c = omega (arith, sized_small _ _ _ _ _ _ (sized_more _ _ _ _ _ _ c.loop-k.invariant.1 _ _ (omega arith) c.write_later-size.auto.out c.write_later-size.ensures))
 
 pub loop-k-preserved : goal.loop-k-preserved
-loop-k-preserved c = (c.loop-k.invariant.0, sized_more _ _ _ _ _ _ c.loop-k.invariant.1 _ _ (omega (arith, c.loop-k.invariant.0, c.loop-k-test.true)) c.write_later-n.auto.out c.write_later-n.ensures)
+loop-k-preserved c = (c.loop-k.invariant.0, sized_more _ _ _ _ _ _ c.loop-k.invariant.1 _ _ (omega (arith, c.loop-k.invariant.0, c.loop-k-test.true)) c.write_later-size.auto.out c.write_later-size.ensures)
 
 pub returns : goal.returns
 returns c = sized_all _ _ _ _ _ _ c.loop-k.invariant.1 (omega (arith, c.loop-k.invariant.0, c.loop-k-test.false))

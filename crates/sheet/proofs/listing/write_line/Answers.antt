@@ -10,5 +10,5 @@ put_line-requires c = ltb-true _ _ (sym c.has_room.ensures ∙ c.if-has_room.tru
 pub returns-then-has_room : goal.returns-then-has_room
 returns-then-has_room c = written_whole _ _ _ _ (ltb-true _ _ (sym c.has_room.ensures ∙ c.if-has_room.true)) c.put_line.ensures
 
-pub returns : goal.returns
-returns c = written_short _ _ (ltb-false _ _ (sym c.has_room.ensures ∙ c.if-has_room.false))
+pub returns-else-has_room : goal.returns-else-has_room
+returns-else-has_room c = written_short _ _ (ltb-false _ _ (sym c.has_room.ensures ∙ c.if-has_room.false))

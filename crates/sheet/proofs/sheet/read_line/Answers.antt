@@ -1,28 +1,25 @@
 -- `read_line` reads the four fields in order and stops at the first that is malformed, as `line` does.
 use mathlib.Core.Path.{sym, ◌∙◌}
-use Rattle.sheet.proofs.SheetLaws.{is_number, is_malformed, line_bad, line_bad_a, line_bad_b, line_bad_c, line_good}
+use Rattle.sheet.proofs.SheetLaws.{line_bad, line_bad_a, line_bad_b, line_bad_c, line_good}
 use Rattle.sheet.proofs.sheet.read_line.Goals as goal
 
-pub returns-in_default : goal.returns-in_default
-returns-in_default c = line_bad _ _ c.requires (is_malformed _ (sym c.field_at.ensures ∙ c.in_default.is))
+pub returns-in_err-read_field : goal.returns-in_err-read_field
+returns-in_err-read_field c = c.from_residual.ensures ∙ sym (line_bad _ (sym c.read_field.ensures ∙ c.in_err-read_field.was))
 
-pub returns-in_default-field_at : goal.returns-in_default-field_at
-returns-in_default-field_at c = line_bad_a _ _ c.requires _ (is_number _ _ (sym c.field_at.ensures ∙ c.in-Number.is))
-    (is_malformed _ (sym c.field_at-2.ensures ∙ c.in_default-field_at.is))
+pub returns-in_err-read_field-2 : goal.returns-in_err-read_field-2
+returns-in_err-read_field-2 c = c.from_residual-in_err-read_field-2.ensures
+    ∙ sym (line_bad_a _ _ (sym c.read_field.ensures ∙ c.in_ok-read_field.was) (sym c.read_field-2.ensures ∙ c.in_err-read_field-2.was))
 
-pub returns-in_default-field_at-2 : goal.returns-in_default-field_at-2
-returns-in_default-field_at-2 c = line_bad_b _ _ c.requires _ (is_number _ _ (sym c.field_at.ensures ∙ c.in-Number.is))
-    _ (is_number _ _ (sym c.field_at-2.ensures ∙ c.in-Number-field_at.is))
-    (is_malformed _ (sym c.field_at-3.ensures ∙ c.in_default-field_at-2.is))
+pub returns-in_err-read_field-3 : goal.returns-in_err-read_field-3
+returns-in_err-read_field-3 c = c.from_residual-in_err-read_field-3.ensures
+    ∙ sym (line_bad_b _ _ (sym c.read_field.ensures ∙ c.in_ok-read_field.was) _ (sym c.read_field-2.ensures ∙ c.in_ok-read_field-2.was)
+    (sym c.read_field-3.ensures ∙ c.in_err-read_field-3.was))
 
-pub returns-in_default-field_at-3 : goal.returns-in_default-field_at-3
-returns-in_default-field_at-3 c = line_bad_c _ _ c.requires _ (is_number _ _ (sym c.field_at.ensures ∙ c.in-Number.is))
-    _ (is_number _ _ (sym c.field_at-2.ensures ∙ c.in-Number-field_at.is))
-    _ (is_number _ _ (sym c.field_at-3.ensures ∙ c.in-Number-field_at-2.is))
-    (is_malformed _ (sym c.field_at-4.ensures ∙ c.in_default-field_at-3.is))
+pub returns-in_err-read_field-4 : goal.returns-in_err-read_field-4
+returns-in_err-read_field-4 c = c.from_residual-in_err-read_field-4.ensures
+    ∙ sym (line_bad_c _ _ (sym c.read_field.ensures ∙ c.in_ok-read_field.was) _ (sym c.read_field-2.ensures ∙ c.in_ok-read_field-2.was)
+    _ (sym c.read_field-3.ensures ∙ c.in_ok-read_field-3.was) (sym c.read_field-4.ensures ∙ c.in_err-read_field-4.was))
 
 pub returns : goal.returns
-returns c = line_good _ _ c.requires _ (is_number _ _ (sym c.field_at.ensures ∙ c.in-Number.is))
-    _ (is_number _ _ (sym c.field_at-2.ensures ∙ c.in-Number-field_at.is))
-    _ (is_number _ _ (sym c.field_at-3.ensures ∙ c.in-Number-field_at-2.is))
-    _ (is_number _ _ (sym c.field_at-4.ensures ∙ c.in-Number-field_at-3.is))
+returns c = sym (line_good _ _ (sym c.read_field.ensures ∙ c.in_ok-read_field.was) _ (sym c.read_field-2.ensures ∙ c.in_ok-read_field-2.was)
+    _ (sym c.read_field-3.ensures ∙ c.in_ok-read_field-3.was) _ (sym c.read_field-4.ensures ∙ c.in_ok-read_field-4.was))
