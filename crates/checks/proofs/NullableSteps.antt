@@ -9,7 +9,8 @@ use lib.ListN.{length, get_or, set, take, replicate}
 use lib.Seq.{length-take-le}
 use lib.Dec.{eqb}
 use lib.IntN.{ℤ}
-use Rattle.reading.specs.Grammar.{Node, row, natural, node_at}
+use Rattle.reading.specs.declared.node.Node.{Node}
+use Rattle.reading.specs.Grammar.{row, natural, node_at}
 use Rattle.reading.specs.Nullable.{still_rows, stands_still, flag, raised}
 use Rattle.reading.proofs.NullableLaws.{still_of}
 

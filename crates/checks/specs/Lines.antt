@@ -1,12 +1,8 @@
--- A line as the code holds it, and the tests that the contracts of src/grammar.rt and nullable.rt cite.
+-- The tests of a line that the contracts of src/grammar.rt and nullable.rt cite.
 use Rattle.std.specs.Prelude.{Bool, ◌&&◌, not, List, ℕ, eqb, ℤ}
-use Rattle.reading.specs.Grammar.{Node, natural, line_fits}
+use Rattle.reading.specs.declared.node.Node.{Node}
+use Rattle.reading.specs.Grammar.{natural, line_fits}
 use Rattle.reading.specs.Nullable.{flag}
-use Rattle.checks.specs.declared.node.Node as Code
-
--- The code's four numbers as the definition's line.
-abbrev pub node_of : Code.Node → Node
-node_of n = record { kind = n.kind; a = n.a; b = n.b; c = n.c }
 
 -- A line against the table.
 abbrev pub line_misfits : List ℤ → List ℕ → (line : ℕ) → Bool

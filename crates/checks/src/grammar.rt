@@ -5,12 +5,13 @@ ghost use Rattle.reading.specs.Grammar.{between, scalar, count, literal_part, ca
 ghost use Rattle.reading.specs.Grammar.{line_count, edge, fields_fit, line_fits, first_line, misfit};
 ghost use Rattle.reading.specs.Outcome.{good_text, first_of, refusal_on};
 ghost use Rattle.checks.specs.Refusals.{refusal_of, refused_of, grammar_tests, later_tests};
-ghost use Rattle.checks.specs.Lines.{node_of, line_misfits};
+ghost use Rattle.checks.specs.Lines.{line_misfits};
 
-use crate::node::{Node, natural_of, node_at, row_of};
+use crate::node::{natural_of, node_at, row_of};
 use crate::nullable::still_repeat;
 use matching::position::Position;
 use matching::utf8::is_utf8;
+use reading::node::Node;
 
 // Why a run is refused: document 01's refusals 4 to 9, with the line where one is named.
 #[derive(Clone, Copy, PartialEq, Eq, Debug)]
@@ -138,7 +139,7 @@ fn is_name(field: i32) -> bool
 // Whether the fields of a line fit its kind, by the table's rows.
 // Kept: a table, and no `match` on the kind: nullable.rt says what was tried; the rows stand as in document 01's table.
 fn fields_fit(nodes: &[i32], literals: Literals<'_>, line: usize, node: Node) -> bool
-    ensures { result ≡ fields_fit nodes.now literals.entry.bytes.now line (node_of node) }
+    ensures { result ≡ fields_fit nodes.now literals.entry.bytes.now line node }
 {
     let Node { kind, a, b, c } = node;
     let nil_b = is_nil(b);

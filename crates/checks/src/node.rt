@@ -3,7 +3,8 @@ ghost use Rattle.std.specs.Prelude.{◌≡◌, ◌||◌, ◌*◌, ◌≤◌, ◌
 ghost use Rattle.std.specs.Prelude.{false, None, Some, pos, length, get_or};
 ghost use Rattle.reading.specs.Grammar.{natural, node_at, row};
 ghost use Rattle.reading.specs.Reading.{index_in, end_in};
-ghost use Rattle.checks.specs.Lines.{node_of};
+
+use reading::node::Node;
 
 // A field as a natural number: a negative one reads 0.
 pub fn natural_of(x: i32) -> usize
@@ -12,21 +13,11 @@ pub fn natural_of(x: i32) -> usize
     if x < 0 { 0 } else { x as usize }
 }
 
-// A line's four numbers.
-// Kept: sheet has the same struct, and neither crate sees the other: a crate below both for four numbers is no plainer.
-#[derive(Clone, Copy)]
-pub(crate) struct Node {
-    pub kind: i32,
-    pub a: i32,
-    pub b: i32,
-    pub c: i32,
-}
-
 // A line, numbered from 1.
 // Kept: the bound, here and in `line_fits`: without it four `get`s, and a product that may not fit, would stand for four indices.
 pub(crate) fn node_at(nodes: &[i32], line: usize) -> Node
     requires { (1 ≤ line) × (line * 4 ≤ length nodes.now) }
-    ensures { node_of result ≡ node_at nodes.now line }
+    ensures { result ≡ node_at nodes.now line }
 {
     Node {
         kind: nodes[line * 4 - 4],

@@ -2,9 +2,10 @@
 ghost use Rattle.std.specs.Prelude.{◌≡◌, false, ◌*◌, ◌+◌, ◌≤◌, ◌<◌, length, replicate};
 ghost use Rattle.reading.specs.Grammar.{node_at, first_line};
 ghost use Rattle.reading.specs.Nullable.{stands_still, flag, raised, swept, rounds, still_repeat};
-ghost use Rattle.checks.specs.Lines.{node_of, flagged_repeat};
+ghost use Rattle.checks.specs.Lines.{flagged_repeat};
 
-use crate::node::{Node, natural_of, node_at, row_of};
+use crate::node::{natural_of, node_at, row_of};
+use reading::node::Node;
 
 // The flag of a line, numbered from 1.
 fn flag_of(flags: &[bool], line: usize) -> bool
@@ -16,7 +17,7 @@ fn flag_of(flags: &[bool], line: usize) -> bool
 // Whether the line may stand still, if the flagged lines may.
 // Kept: a table, and no `match` on the kind: tried, and each arm, and each side of each `&&` in it, asked for an answer of its own.
 fn line_stands_still(node: Node, flags: &[bool]) -> bool
-    ensures { result ≡ stands_still (flag flags.now) (node_of node) }
+    ensures { result ≡ stands_still (flag flags.now) node }
 {
     let field_a = natural_of(node.a);
     let field_b = natural_of(node.b);
@@ -75,7 +76,7 @@ fn flag_all(nodes: &[i32], flags: &mut [bool])
 
 // Whether the line is a repeat whose body is flagged.
 fn repeat_stands_still(node: Node, flags: &[bool]) -> bool
-    ensures { result ≡ flagged_repeat flags.now (node_of node) }
+    ensures { result ≡ flagged_repeat flags.now node }
 {
     node.kind == 10 && flag_of(flags, natural_of(node.a))
 }

@@ -1,7 +1,8 @@
 -- How the code's structs stand for a node: what the contracts of src/node.rt cite.
 use Rattle.engine.specs.declared.node.Line.{Line}
 use Rattle.engine.specs.declared.node.Ends.{Ends}
-use Rattle.reading.specs.Grammar.{Node, natural}
+use Rattle.reading.specs.declared.node.Node.{Node}
+use Rattle.reading.specs.Grammar.{natural}
 
 -- A node whose fields are read as natural numbers.
 abbrev pub line_of : Node → Line

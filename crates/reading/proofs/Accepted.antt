@@ -17,7 +17,8 @@ use borrow.Author.Tests.{leb-true, eqb-true, eq-eqb, not-false}
 use Rattle.matching.specs.Utf8.{within, Utf8, is_utf8}
 use Rattle.matching.proofs.Lead.{and_left, and_right, within_true, within_is}
 use Rattle.matching.proofs.Characters.{is_utf8_iff}
-use Rattle.reading.specs.Grammar.{Node, node_at, natural, kind_at, line_count, row, first_line, between, nil, scalar, count, name, edge, literal_part, called, field_rows, fields_fit, line_fits, misfit, Exp, match_string, match_insensitive, match_range, skip, end_of_input, and_then, or_else, rule, sequence, repeat, optional, lookahead, atomic, stack_push, stack_pop, stack_match_pop, restore_on_err, tag_node, call, atomicity_of, peek_slice, tree_of, trees, tree_at, rule_at, plain_line, plain}
+use Rattle.reading.specs.declared.node.Node.{Node}
+use Rattle.reading.specs.Grammar.{node_at, natural, kind_at, line_count, row, first_line, between, nil, scalar, count, name, edge, literal_part, called, field_rows, fields_fit, line_fits, misfit, Exp, match_string, match_insensitive, match_range, skip, end_of_input, and_then, or_else, rule, sequence, repeat, optional, lookahead, atomic, stack_push, stack_pop, stack_match_pop, restore_on_err, tag_node, call, atomicity_of, peek_slice, tree_of, trees, tree_at, rule_at, plain_line, plain}
 use Rattle.reading.specs.Nullable.{still_rows, stands_still, nullable, still_repeat}
 use Rattle.reading.specs.Outcome.{Input, Refusal, refuse, unless, good_text, first_of, tests, refusal}
 use Rattle.reading.proofs.EdgeLaws as EdgeLaws

@@ -11,7 +11,8 @@ use lib.ListN.{length, get_or, set, replicate, length-set, length-replicate, get
 use lib.Seq.{get_or-set_same, get_or-set_other, set-get_or, set_out}
 use lib.Dec.{eqb}
 use lib.IntN.{ℤ}
-use Rattle.reading.specs.Grammar.{Node, natural, node_at, line_count}
+use Rattle.reading.specs.declared.node.Node.{Node}
+use Rattle.reading.specs.Grammar.{natural, node_at, line_count}
 use Rattle.reading.specs.Nullable.{still_rows, stands_still, Closed, Least, flag, raised, swept, rounds, nullable}
 
 -- ── Monotone ──

@@ -3,7 +3,8 @@ use Rattle.std.specs.Prelude.{◌≡◌, refl, List, [], ◌∷◌, map, ℕ, re
 use Rattle.std.specs.Prelude.{Option, None}
 use Rattle.matching.specs.Utf8.{decode, characters}
 use Rattle.matching.specs.Position.{match_by, match_char_by}
-use Rattle.reading.specs.Grammar.{Node, node_at, fields_fit, tree_of, trees}
+use Rattle.reading.specs.declared.node.Node.{Node}
+use Rattle.reading.specs.Grammar.{node_at, fields_fit, tree_of, trees}
 use Rattle.reading.specs.Nullable.{stands_still, raised, swept, rounds}
 use Rattle.reading.specs.Forest.{start_token, end_token}
 use Rattle.reading.specs.Outcome.{Input, Refusal, refusal, reading, Answer, answer, of_tokens, of_failure, stopped}

@@ -2,21 +2,15 @@
 use Rattle.std.specs.Prelude.{Bool, true, false, ◌&&◌, ◌||◌, not, List, [], ◌∷◌, ◌++◌, ℕ, zero, suc, ◌+◌, ◌-◌, ◌*◌, ◌/◌, ℤ, pos, negsuc, length, get_or, take, drop, eqb, leb, ltb, if◌then◌else◌}
 use Rattle.std.specs.Prelude.{Option, None, Some}
 use Rattle.matching.specs.Utf8.{within, is_utf8}
+use Rattle.reading.specs.declared.node.Node.{Node}
 use Rattle.reading.specs.declared.parser_state.Atomicity.{Atomicity}
 use Rattle.reading.specs.declared.parser_state.Atomicity.TheVariants.{Atomic, CompoundAtomic, NonAtomic}
 
 -- ── Lines ──
--- "Each is kind, a, b, c as signed 32-bit numbers"
-pub record Node : Type 0 where
-  pub kind : ℤ
-  pub a : ℤ
-  pub b : ℤ
-  pub c : ℤ
-
 abbrev pub line_count : List ℤ → ℕ
 line_count ns = length ns / 4
 
--- "lines numbered from 1"
+-- "lines numbered from 1. Each is kind, a, b, c as signed 32-bit numbers"
 unfoldable pub node_at : List ℤ → (line : ℕ) → Node
 node_at ns l = record {
   kind = get_or ns (l * 4 - 4) (pos 0);

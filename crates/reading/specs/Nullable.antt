@@ -1,7 +1,8 @@
 -- "May stand still, the least such set", over node lines, and refusal 6.
 use Rattle.std.specs.Prelude.{◌≡◌, Bool, true, false, ◌&&◌, ◌||◌, List, [], ◌∷◌, ℕ, zero, suc, ◌≤◌, ℤ, get_or, set, replicate, eqb}
 use Rattle.std.specs.Prelude.{Option}
-use Rattle.reading.specs.Grammar.{Node, node_at, natural, kind_at, line_count, row, first_line}
+use Rattle.reading.specs.declared.node.Node.{Node}
+use Rattle.reading.specs.Grammar.{node_at, natural, kind_at, line_count, row, first_line}
 
 -- "kinds 1, 2 and 4 with zero; 5, 10, 11, 12, 15, 16, 17, 19; 6 if both do; 7 if either does; 8, 9, 13, 14, 18, 20 as their line does":
 -- a row for each kind, by whether fields a and b are zero, and whether the lines that they name may stand still.

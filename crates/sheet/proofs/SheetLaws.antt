@@ -23,7 +23,7 @@ use Rattle.sheet.specs.Sheet.{cut, count, lines, ended, lined, columns, line, re
 use Rattle.std.specs.Option.{is_some}
 use Rattle.std.specs.Simd.{first_chunks}
 use Rattle.sheet.specs.Answers.{unless_zero, malformed_line, lines_if_lined}
-use Rattle.sheet.specs.declared.sheet.Node.{Node}
+use Rattle.reading.specs.declared.node.Node.{Node}
 use Rattle.sheet.proofs.FieldLaws.{then_some, field_back}
 
 pub malformed_done : (ls : List (List ℕ)) (i k : ℕ) → length ls ≤ i → first_malformed k (drop i ls) ≡ 0

@@ -3,9 +3,9 @@ use Rattle.std.specs.Prelude.{ℕ, zero, suc, ◌*◌, ◌/◌, ◌%◌, ◌≤�
 use Rattle.std.specs.List.{list_all}
 use Rattle.std.specs.Prelude.{Option, None, Some}
 use Rattle.engine.specs.declared.state.Outcome.{Outcome}
+use Rattle.reading.specs.declared.node.Node.{Node}
 use Rattle.sheet.specs.Area.{over}
 use Rattle.sheet.specs.Field.{and_then, field}
-use Rattle.sheet.specs.declared.sheet.Node.{Node}
 
 -- "A sheet line is 41 bytes": the first n lines of s.
 unfoldable pub cut : ℕ → List ℕ → List (List ℕ)

@@ -6,19 +6,10 @@ ghost use Rattle.sheet.specs.Answers.{lines_if_lined, malformed_line, told, answ
 
 use crate::field::read_field;
 use engine::state::Outcome;
+use reading::node::Node;
 
 // A line's bytes, its end among them.
 pub(crate) type Line = [u8; 41];
-
-// A line's numbers.
-// Kept: checks has the same struct, see there.
-#[derive(Clone, Copy)]
-pub(crate) struct Node {
-    pub kind: i32,
-    pub a: i32,
-    pub b: i32,
-    pub c: i32,
-}
 
 // Why a sheet is refused, in the order of the tests. A malformed field has its line, counted from 1.
 #[derive(Clone, Copy)]
