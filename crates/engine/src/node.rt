@@ -6,6 +6,7 @@ ghost use Rattle.engine.specs.Lines.{line_of, ends_of};
 use checks::node::natural_of;
 
 // A node whose fields are read as natural numbers.
+// Kept: a struct beside reading's `Node`, and no generic of both: each is what one definition speaks of, and no function takes either.
 #[derive(Clone, Copy)]
 pub struct Line {
     pub kind: usize,
