@@ -36,11 +36,11 @@ answered false t = Err t
 
 -- One counted call more.
 abbrev pub one_more : Code.CallLimitTracker → Code.CallLimitTracker
-one_more t = record { current = count_of t.limit t.current (suc t.current); limit = t.limit; reached = t.reached }
+one_more t = record t { current = count_of t.limit t.current (suc t.current) }
 
 -- The depth limit, which is tested last: `next` is the tracker of an entry that it lets in.
 abbrev pub by_depth : (room : Bool) → (t next : Code.CallLimitTracker) → Result Code.CallLimitTracker Code.CallLimitTracker
-by_depth room t next = if room then Ok next else Err (record { current = t.current; limit = t.limit; reached = Some Stack })
+by_depth room t next = if room then Ok next else Err (record t { reached = Some Stack })
 
 -- ── pest's tracker ──
 abbrev pub limit_of : (current limit : ℕ) → Option Pest.CallLimit

@@ -179,7 +179,7 @@ module _ (r p : ℕ) (n : Noted) (t : Tried) (m : ParserState) where
       s₁ = record { furthest = t.furthest; positive = t.positive ++ (r ∷ []); negative = t.negative }
 
       s₂ : Tried
-      s₂ = record { furthest = t.furthest; positive = t.positive; negative = t.negative ++ (r ∷ []) }
+      s₂ = record t { negative = t.negative ++ (r ∷ []) }
 
       go : (b c : Bool) → (if b then (if c then with_tried s₁ m else with_tried s₂ m) else with_tried t m) ≡ with_tried (if b then (if c then s₁ else s₂) else t) m
       go true true = refl

@@ -49,17 +49,7 @@ state_ready tokens a s r v k p n = record {
 
 -- pest's state m with other attempts and another stack
 abbrev with_parts : Pest.ParserState → List ℕ → List ℕ → Pest.Stack → Pest.ParserState
-with_parts m ps ns v = record {
-  position = m.position;
-  queue = m.queue;
-  lookahead = m.lookahead;
-  pos_attempts = ps;
-  neg_attempts = ns;
-  attempt_pos = m.attempt_pos;
-  atomicity = m.atomicity;
-  stack = v;
-  call_tracker = m.call_tracker;
-}
+with_parts m ps ns v = record m { pos_attempts = ps; neg_attempts = ns; stack = v }
 
 module _ {a b : List ℕ} {s t : ParserState} (r : StateReady a s) (o : OutsideStack a b) where
   view_stack : (w : Stack) (v : Pest.Stack) → stack_of b w ≡ v → t ≡ Fields.set_stack w s → (tokens : List ℕ) → view tokens b t ≡ set_stack v (view tokens a s)

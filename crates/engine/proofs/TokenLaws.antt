@@ -161,7 +161,7 @@ pushed a n t b h e =
 
 -- ── the partner of a Start ──
 abbrev with_partner : ℕ → Token → Token
-with_partner v t = record { kind = t.kind; partner = v; position = t.position; rule = t.rule; tag = t.tag }
+with_partner v t = record t { partner = v }
 
 pub start_by : (t : Token) → t.kind ≡ 1 → token_by t ≡ Start t.partner t.position
 start_by t e = rw (eq-eqb t.kind 1 e)
@@ -202,7 +202,7 @@ module _ (a : List ℕ) (i v : ℕ) (h : i * 5 + 5 ≤ length a) where
 
 -- ── the tag of the last End ──
 abbrev with_tag : ℕ → Token → Token
-with_tag u t = record { kind = t.kind; partner = t.partner; position = t.position; rule = t.rule; tag = u }
+with_tag u t = record t { tag = u }
 
 tag_five : (a : List ℕ) (i u : ℕ) → i * 5 + 5 ≤ length a → five_at (set a (i * 5 + 4) u) i ≡ with_tag u (five_at a i)
 tag_five a i u h =

@@ -31,7 +31,7 @@ noted p t = record {
 
 -- The three steps of `track`.
 abbrev pub truncated : (p : ℕ) → Noted → Tried → Tried
-truncated p n t = if eqb p t.furthest then record { furthest = t.furthest; positive = take n.positives t.positive; negative = take n.negatives t.negative } else t
+truncated p n t = if eqb p t.furthest then record t { positive = take n.positives t.positive; negative = take n.negatives t.negative } else t
 
 abbrev pub advanced : (p : ℕ) → Tried → Tried
 advanced p t = if ltb t.furthest p then record { furthest = p; positive = []; negative = [] } else t
@@ -39,8 +39,7 @@ advanced p t = if ltb t.furthest p then record { furthest = p; positive = []; ne
 abbrev pub appended : (rule p : ℕ) → (negative : Bool) → Tried → Tried
 appended r p neg t =
     if eqb p t.furthest then
-    (if not neg then record { furthest = t.furthest; positive = t.positive ++ (r ∷ []); negative = t.negative }
-    else record { furthest = t.furthest; positive = t.positive; negative = t.negative ++ (r ∷ []) })
+    (if not neg then record t { positive = t.positive ++ (r ∷ []) } else record t { negative = t.negative ++ (r ∷ []) })
     else t
 
 abbrev pub tracked : (rule p : ℕ) → Noted → (negative : Bool) → Tried → Tried

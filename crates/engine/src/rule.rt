@@ -33,7 +33,8 @@ pub(crate) fn produces(s: &ParserState) -> bool
 // The Start of a rule that is recorded.
 pub(crate) fn start_rule(tokens: &mut [u32], s: &mut ParserState, room: usize, line: u32) -> Ending
     requires { Recording tokens.old room s.old }
-    ensures state_after { (g : Setting) (scratch : List ℕ) → g.capacity ≡ room → view_end tokens.new scratch s.new result ≡ starting g line (view tokens.old scratch s.old) }
+    ensures state_after { (g : Setting) (scratch : List ℕ) → g.capacity ≡ room →
+        view_end tokens.new scratch s.new result ≡ starting g line (view tokens.old scratch s.old) }
     ensures outside { Outside (s.old.queue.0 * 5) (s.old.queue.0 * 5 + 5) tokens.old tokens.new }
 {
     let n = s.queue;

@@ -37,20 +37,20 @@ pub record Stack : Type 0 where
   pub lengths : List Checkpoint
 
 abbrev pub push : Span → Stack → Stack
-push x v = record { cache = x ∷ v.cache; popped = v.popped; lengths = v.lengths }
+push x v = record v { cache = x ∷ v.cache }
 
 -- `pop`, of a cache that is x over `rest`
 abbrev pub pop_onto : Span → (rest popped : List Span) → List Checkpoint → Stack
 pop_onto x rest popped [] = record { cache = rest; popped = popped; lengths = [] }
 pop_onto x rest popped (l ∷ ls) =
-    if eqb (suc (length rest)) l.lowest then record { cache = rest; popped = x ∷ popped; lengths = record { height = l.height; lowest = l.lowest - 1 } ∷ ls }
+    if eqb (suc (length rest)) l.lowest then record { cache = rest; popped = x ∷ popped; lengths = record l { lowest = l.lowest - 1 } ∷ ls }
     else record { cache = rest; popped = popped; lengths = l ∷ ls }
 
 abbrev pub pop : Span → (rest : List Span) → Stack → Stack
 pop x rest v = pop_onto x rest v.popped v.lengths
 
 abbrev pub snapshot : Stack → Stack
-snapshot v = record { cache = v.cache; popped = v.popped; lengths = record { height = length v.cache; lowest = length v.cache } ∷ v.lengths }
+snapshot v = record v { lengths = record { height = length v.cache; lowest = length v.cache } ∷ v.lengths }
 
 -- `drain(popped_start..popped_start + popped_count - parent_popped)` leaves the last `parent_popped`, and what stands before the
 -- last `popped_count`.
@@ -58,7 +58,7 @@ abbrev pub clear_onto : (popped_count remained : ℕ) → (cache popped : List S
 clear_onto n remained cache popped [] = record { cache = cache; popped = drop n popped; lengths = [] }
 clear_onto n remained cache popped (l ∷ ls) =
     let merged : ℕ = min l.lowest remained in
-    record { cache = cache; popped = take (l.lowest - merged) popped ++ drop n popped; lengths = record { height = l.height; lowest = merged } ∷ ls }
+    record { cache = cache; popped = take (l.lowest - merged) popped ++ drop n popped; lengths = record l { lowest = merged } ∷ ls }
 
 abbrev pub clear_top : List Checkpoint → Stack → Stack
 clear_top [] v = v
@@ -71,12 +71,12 @@ abbrev pub truncate : ℕ → List Span → List Span
 truncate n v = drop (length v - n) v
 
 abbrev pub restore_top : List Checkpoint → Stack → Stack
-restore_top [] v = record { cache = []; popped = v.popped; lengths = v.lengths }
+restore_top [] v = record v { cache = [] }
 restore_top (l ∷ ls) v =
     let kept : List Span = if ltb l.lowest (length v.cache) then truncate l.lowest v.cache else v.cache in
     let n : ℕ = l.height - l.lowest in
     if ltb l.lowest l.height then record { cache = reverse (take n v.popped) ++ kept; popped = drop n v.popped; lengths = ls }
-    else record { cache = kept; popped = v.popped; lengths = ls }
+    else record v { cache = kept; lengths = ls }
 
 abbrev pub restore : Stack → Stack
 restore v = restore_top v.lengths v
@@ -100,11 +100,11 @@ pub record Entered : Type 0 where
   pub tracker : CallLimitTracker
 
 abbrev pub reached : LimitKind → CallLimitTracker → Entered
-reached c t = record { answer = false; tracker = record { current_call_limit = t.current_call_limit; limit_reached = Some c } }
+reached c t = record { answer = false; tracker = record t { limit_reached = Some c } }
 
 abbrev pub one_more : Option CallLimit → Option CallLimit
 one_more None = None
-one_more (Some c) = Some (record { current = suc c.current; limit = c.limit })
+one_more (Some c) = Some (record c { current = suc c.current })
 
 -- `REQUIRED_STACK_SPACE`
 abbrev pub short_of_stack : Option ℕ → Bool
@@ -116,7 +116,7 @@ enter_with_stack count_call space t =
     if is_set t.limit_reached then record { answer = false; tracker = t }
     else if count_call && exceeded t.current_call_limit then reached LimitKind.Call t
     else if short_of_stack space then reached LimitKind.Stack t
-    else record { answer = true; tracker = record { current_call_limit = if count_call then one_more t.current_call_limit else t.current_call_limit; limit_reached = t.limit_reached } }
+    else record { answer = true; tracker = record t { current_call_limit = if count_call then one_more t.current_call_limit else t.current_call_limit } }
 
 -- Document 01's stand-in: "gives `Some(0)` when the open calls number the depth limit or more, else `None`".
 abbrev pub remaining_stack : (room : Bool) → Option ℕ
@@ -155,25 +155,25 @@ new l = record {
 }
 
 abbrev pub set_position : ℕ → ParserState → ParserState
-set_position p m = record { position = p; queue = m.queue; lookahead = m.lookahead; pos_attempts = m.pos_attempts; neg_attempts = m.neg_attempts; attempt_pos = m.attempt_pos; atomicity = m.atomicity; stack = m.stack; call_tracker = m.call_tracker }
+set_position p m = record m { position = p }
 
 abbrev pub set_queue : List QueueableToken → ParserState → ParserState
-set_queue q m = record { position = m.position; queue = q; lookahead = m.lookahead; pos_attempts = m.pos_attempts; neg_attempts = m.neg_attempts; attempt_pos = m.attempt_pos; atomicity = m.atomicity; stack = m.stack; call_tracker = m.call_tracker }
+set_queue q m = record m { queue = q }
 
 abbrev pub set_lookahead : Lookahead → ParserState → ParserState
-set_lookahead l m = record { position = m.position; queue = m.queue; lookahead = l; pos_attempts = m.pos_attempts; neg_attempts = m.neg_attempts; attempt_pos = m.attempt_pos; atomicity = m.atomicity; stack = m.stack; call_tracker = m.call_tracker }
+set_lookahead l m = record m { lookahead = l }
 
 abbrev pub set_attempts : ℕ → List ℕ → List ℕ → ParserState → ParserState
-set_attempts p ps ns m = record { position = m.position; queue = m.queue; lookahead = m.lookahead; pos_attempts = ps; neg_attempts = ns; attempt_pos = p; atomicity = m.atomicity; stack = m.stack; call_tracker = m.call_tracker }
+set_attempts p ps ns m = record m { pos_attempts = ps; neg_attempts = ns; attempt_pos = p }
 
 abbrev pub set_atomicity : Atomicity → ParserState → ParserState
-set_atomicity a m = record { position = m.position; queue = m.queue; lookahead = m.lookahead; pos_attempts = m.pos_attempts; neg_attempts = m.neg_attempts; attempt_pos = m.attempt_pos; atomicity = a; stack = m.stack; call_tracker = m.call_tracker }
+set_atomicity a m = record m { atomicity = a }
 
 abbrev pub set_stack : Stack → ParserState → ParserState
-set_stack v m = record { position = m.position; queue = m.queue; lookahead = m.lookahead; pos_attempts = m.pos_attempts; neg_attempts = m.neg_attempts; attempt_pos = m.attempt_pos; atomicity = m.atomicity; stack = v; call_tracker = m.call_tracker }
+set_stack v m = record m { stack = v }
 
 abbrev pub set_call_tracker : CallLimitTracker → ParserState → ParserState
-set_call_tracker t m = record { position = m.position; queue = m.queue; lookahead = m.lookahead; pos_attempts = m.pos_attempts; neg_attempts = m.neg_attempts; attempt_pos = m.attempt_pos; atomicity = m.atomicity; stack = m.stack; call_tracker = t }
+set_call_tracker t m = record m { call_tracker = t }
 
 abbrev pub limit_reached : ParserState → Bool
 limit_reached m = is_set m.call_tracker.limit_reached

@@ -76,25 +76,25 @@ initial limit = record {
 }
 
 abbrev pub at_position : ℕ → State → State
-at_position p s = record { position = p; stack = s.stack; checkpoints = s.checkpoints; siblings = s.siblings; outer = s.outer; lookahead = s.lookahead; atomicity = s.atomicity; tracker = s.tracker; attempts = s.attempts }
+at_position p s = record s { position = p }
 
 abbrev pub with_stack : List Span → List Checkpoint → State → State
-with_stack v k s = record { position = s.position; stack = v; checkpoints = k; siblings = s.siblings; outer = s.outer; lookahead = s.lookahead; atomicity = s.atomicity; tracker = s.tracker; attempts = s.attempts }
+with_stack v k s = record s { stack = v; checkpoints = k }
 
 abbrev pub with_siblings : Forest → ℕ → State → State
-with_siblings f o s = record { position = s.position; stack = s.stack; checkpoints = s.checkpoints; siblings = f; outer = o; lookahead = s.lookahead; atomicity = s.atomicity; tracker = s.tracker; attempts = s.attempts }
+with_siblings f o s = record s { siblings = f; outer = o }
 
 abbrev pub with_lookahead : Lookahead → State → State
-with_lookahead l s = record { position = s.position; stack = s.stack; checkpoints = s.checkpoints; siblings = s.siblings; outer = s.outer; lookahead = l; atomicity = s.atomicity; tracker = s.tracker; attempts = s.attempts }
+with_lookahead l s = record s { lookahead = l }
 
 abbrev pub with_atomicity : Atomicity → State → State
-with_atomicity a s = record { position = s.position; stack = s.stack; checkpoints = s.checkpoints; siblings = s.siblings; outer = s.outer; lookahead = s.lookahead; atomicity = a; tracker = s.tracker; attempts = s.attempts }
+with_atomicity a s = record s { atomicity = a }
 
 abbrev pub with_tracker : Tracker → State → State
-with_tracker t s = record { position = s.position; stack = s.stack; checkpoints = s.checkpoints; siblings = s.siblings; outer = s.outer; lookahead = s.lookahead; atomicity = s.atomicity; tracker = t; attempts = s.attempts }
+with_tracker t s = record s { tracker = t }
 
 abbrev pub with_attempts : Attempts → State → State
-with_attempts a s = record { position = s.position; stack = s.stack; checkpoints = s.checkpoints; siblings = s.siblings; outer = s.outer; lookahead = s.lookahead; atomicity = s.atomicity; tracker = s.tracker; attempts = a }
+with_attempts a s = record s { attempts = a }
 
 -- "Held are one token for each open recorded rule and two for each pair."
 abbrev pub held : State → ℕ
@@ -117,7 +117,7 @@ debt (k ∷ ks) = (k.height - k.lowest) + debt ks
 -- The innermost checkpoint sees the height h.
 abbrev pub lower_to : ℕ → List Checkpoint → List Checkpoint
 lower_to h [] = []
-lower_to h (k ∷ ks) = record { height = k.height; lowest = min k.lowest h } ∷ ks
+lower_to h (k ∷ ks) = record k { lowest = min k.lowest h } ∷ ks
 
 abbrev pub open_checkpoint : State → State
 open_checkpoint s = with_stack s.stack (record { height = length s.stack; lowest = length s.stack } ∷ s.checkpoints) s
@@ -153,9 +153,9 @@ over (suc l) n = leb (suc l) n
 abbrev pub enter : (room counts : Bool) → Tracker → Entry
 enter room counts t =
     if is_set t.cause then refused t
-    else if counts && over t.limit t.counted then refused (record { limit = t.limit; counted = t.counted; cause = Some Call })
-    else if room then entered (record { limit = t.limit; counted = if counts then suc t.counted else t.counted; cause = t.cause })
-    else refused (record { limit = t.limit; counted = t.counted; cause = Some Stack })
+    else if counts && over t.limit t.counted then refused (record t { cause = Some Call })
+    else if room then entered (record t { counted = if counts then suc t.counted else t.counted })
+    else refused (record t { cause = Some Stack })
 
 -- "A refused entry answers Err before all else in its combinator"
 abbrev pub entering : (room counts : Bool) → State → (State → Ending State) → Ending State
@@ -181,7 +181,7 @@ note_at p a = record {
 -- "if p = furthest, cut both lists to the noted lengths; if p > furthest, empty both and furthest = p"
 abbrev pub cleared : ℕ → Note → Attempts → Attempts
 cleared p n a =
-    if eqb p a.furthest then record { furthest = a.furthest; positive = take n.positives a.positive; negative = take n.negatives a.negative }
+    if eqb p a.furthest then record a { positive = take n.positives a.positive; negative = take n.negatives a.negative }
     else if ltb a.furthest p then record { furthest = p; positive = []; negative = [] }
     else a
 
@@ -189,8 +189,7 @@ cleared p n a =
 abbrev pub appended : (negative : Bool) → (p rule : ℕ) → Attempts → Attempts
 appended neg p r a =
     if eqb p a.furthest then
-    (if neg then record { furthest = a.furthest; positive = a.positive; negative = a.negative ++ (r ∷ []) }
-    else record { furthest = a.furthest; positive = a.positive ++ (r ∷ []); negative = a.negative })
+    (if neg then record a { negative = a.negative ++ (r ∷ []) } else record a { positive = a.positive ++ (r ∷ []) })
     else a
 
 -- "if the count at p is now c+1, nothing"
@@ -416,7 +415,7 @@ module _ (g : Setting) where
 
   -- Where no call may open, every entry is refused, and what stands here is not reached.
   abbrev pub no_deeper : Exp → State → Ending State
-  no_deeper e s = Err (with_tracker (record { limit = s.tracker.limit; counted = s.tracker.counted; cause = Some Stack }) s)
+  no_deeper e s = Err (with_tracker (record s.tracker { cause = Some Stack }) s)
 
   -- Evaluation where `room` more calls may be open at once.
   abbrev pub eval : (room : ℕ) → Exp → State → Ending State
