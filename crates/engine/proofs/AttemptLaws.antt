@@ -52,7 +52,8 @@ take_min a at n m = go (dec_le m n)
     go (no l) = let e : min m n ≡ n = omega arith in ap (numbers a at) e ∙ sym (take_all m (numbers a at n) (omega (arith, numbers_length a at n)))
 
 module _ (a : List ℕ) (ps ns f x y p : ℕ) (n : Noted) where
-  pub cut_at : (x' y' : ℕ) → x' ≡ min n.positives x → y' ≡ min n.negatives y → p ≡ f → tr a ps ns f x' y' ≡ advanced p (truncated p n (tr a ps ns f x y))
+  pub cut_at : (x' y' : ℕ) → x' ≡ min n.positives x → y' ≡ min n.negatives y → p ≡ f
+      → tr a ps ns f x' y' ≡ advanced p (truncated p n (tr a ps ns f x y))
   cut_at x' y' ex ey e =
       rw (eq-eqb p f e, le-ltb f p (omega arith))
       (tried_ext refl (ap (numbers a ps) ex ∙ take_min a ps x n.positives) (ap (numbers a ns) ey ∙ take_min a ns y n.negatives))
@@ -90,7 +91,8 @@ module _ (a : List ℕ) (t : Attempts) (p r : ℕ) (neg : Bool) (lent : Lent a t
 
   pub append_off : (p ≡ f → ⊥) → (Some (tried a t) ≡ within (appended r p neg (tried a t))) × Outside positives_at lengths_at a a
   append_off e =
-      (within_few (tried a t) (omega (arith, lent.few.few_positives, numbers_length a positives_at x)) (omega (arith, lent.few.few_negatives, numbers_length a negatives_at y)) ∙ ap within (sym off), outside_refl a)
+      (within_few (tried a t) (omega (arith, lent.few.few_positives, numbers_length a positives_at x))
+          (omega (arith, lent.few.few_negatives, numbers_length a negatives_at y)) ∙ ap within (sym off), outside_refl a)
     where
       off : appended r p neg (tried a t) ≡ tried a t
       off = rw (ne_eqb p f e)
@@ -103,25 +105,31 @@ module _ (a : List ℕ) (t : Attempts) (p r : ℕ) (neg : Bool) (lent : Lent a t
 
   -- What `push` answers decides the list that it was asked for, and the other is as it was.
   pub append_negative : (b : List ℕ) (o : Option ℕ) → p ≡ f → neg ≡ true → PushedAt negatives_at y r a b o
-      → (option_map (λ (n : ℕ). tried b (record { furthest = t.furthest; positives = x; negatives = n })) o ≡ within (appended r p neg (tried a t))) × Outside positives_at lengths_at a b
+      → (option_map (λ (n : ℕ). tried b (record { furthest = t.furthest; positives = x; negatives = n })) o
+          ≡ within (appended r p neg (tried a t))) × Outside positives_at lengths_at a b
   append_negative b None e q (full, same) =
       let s : Tried = record { furthest = f; positive = ps; negative = ns ++ (r ∷ []) } in (
-        within_full_negative s (omega (arith, lent.few.few_positives, numbers_length a positives_at x)) (omega (arith, numbers_length a negatives_at y, length-append ns (r ∷ [])))
+        within_full_negative s (omega (arith, lent.few.few_positives, numbers_length a positives_at x))
+            (omega (arith, numbers_length a negatives_at y, length-append ns (r ∷ [])))
             ∙ ap within (sym (negative_is e q)),
         rw same (outside_refl a),
       )
   append_negative b (Some n) e q (room, more, is) =
       let size : 4864 ≤ length a = lent.room in
       let o : Outside (negatives_at + y) (negatives_at + y + 1) a b = rw is (outside_set a (negatives_at + y) r) in
-      let kept : numbers b positives_at x ≡ ps = sym (numbers_same a b positives_at x (same_below positives_at (positives_at + x) (omega (arith, lent.few.few_positives)) o)) in
+      let kept : numbers b positives_at x ≡ ps =
+              sym (numbers_same a b positives_at x (same_below positives_at (positives_at + x) (omega (arith, lent.few.few_positives)) o)) in
       let grown : numbers b negatives_at n ≡ ns ++ (r ∷ []) = rw (is, more) (numbers_set a negatives_at y r (omega arith)) in
-      let same : tried b (record { furthest = t.furthest; positives = x; negatives = n }) ≡ appended r p neg (tried a t) = tried_ext refl kept grown ∙ sym (negative_is e q) in (
-        within_few _ (omega (arith, lent.few.few_positives, numbers_length b positives_at x)) (omega (arith, numbers_length b negatives_at n)) ∙ ap within same,
+      let same : tried b (record { furthest = t.furthest; positives = x; negatives = n }) ≡ appended r p neg (tried a t) =
+              tried_ext refl kept grown ∙ sym (negative_is e q) in (
+        within_few _ (omega (arith, lent.few.few_positives, numbers_length b positives_at x))
+            (omega (arith, numbers_length b negatives_at n)) ∙ ap within same,
         outside_wider (omega arith) (omega arith) o,
       )
 
   pub append_positive : (b : List ℕ) (o : Option ℕ) → p ≡ f → neg ≡ false → PushedAt positives_at x r a b o
-      → (option_map (λ (n : ℕ). tried b (record { furthest = t.furthest; positives = n; negatives = y })) o ≡ within (appended r p neg (tried a t))) × Outside positives_at lengths_at a b
+      → (option_map (λ (n : ℕ). tried b (record { furthest = t.furthest; positives = n; negatives = y })) o
+          ≡ within (appended r p neg (tried a t))) × Outside positives_at lengths_at a b
   append_positive b None e q (full, same) =
       let s : Tried = record { furthest = f; positive = ps ++ (r ∷ []); negative = ns } in (
         within_full_positive s (omega (arith, numbers_length a positives_at x, length-append ps (r ∷ []))) ∙ ap within (sym (positive_is e q)),
@@ -132,8 +140,10 @@ module _ (a : List ℕ) (t : Attempts) (p r : ℕ) (neg : Bool) (lent : Lent a t
       let o : Outside (positives_at + x) (positives_at + x + 1) a b = rw is (outside_set a (positives_at + x) r) in
       let kept : numbers b negatives_at y ≡ ns = sym (numbers_same a b negatives_at y (same_above negatives_at (negatives_at + y) (omega arith) o)) in
       let grown : numbers b positives_at n ≡ ps ++ (r ∷ []) = rw (is, more) (numbers_set a positives_at x r (omega arith)) in
-      let same : tried b (record { furthest = t.furthest; positives = n; negatives = y }) ≡ appended r p neg (tried a t) = tried_ext refl grown kept ∙ sym (positive_is e q) in (
-        within_few _ (omega (arith, numbers_length b positives_at n)) (omega (arith, lent.few.few_negatives, numbers_length b negatives_at y)) ∙ ap within same,
+      let same : tried b (record { furthest = t.furthest; positives = n; negatives = y }) ≡ appended r p neg (tried a t) =
+              tried_ext refl grown kept ∙ sym (positive_is e q) in (
+        within_few _ (omega (arith, numbers_length b positives_at n))
+            (omega (arith, lent.few.few_negatives, numbers_length b negatives_at y)) ∙ ap within same,
         outside_wider (omega arith) (omega arith) o,
       )
 
@@ -159,7 +169,8 @@ with_if true x y m = refl
 with_if false x y m = refl
 
 -- Lists of at most 256 rules, as counts.
-pub few_of : (scratch : List ℕ) (t : Attempts) → length (tried scratch t).positive ≤ most_attempts → length (tried scratch t).negative ≤ most_attempts → Few t
+pub few_of : (scratch : List ℕ) (t : Attempts) → length (tried scratch t).positive ≤ most_attempts
+    → length (tried scratch t).negative ≤ most_attempts → Few t
 few_of a t h g = record {
   few_positives = omega (arith, numbers_length a positives_at t.positives);
   few_negatives = omega (arith, numbers_length a negatives_at t.negatives);
@@ -181,7 +192,8 @@ module _ (r p : ℕ) (n : Noted) (t : Tried) (m : ParserState) where
       s₂ : Tried
       s₂ = record t { negative = t.negative ++ (r ∷ []) }
 
-      go : (b c : Bool) → (if b then (if c then with_tried s₁ m else with_tried s₂ m) else with_tried t m) ≡ with_tried (if b then (if c then s₁ else s₂) else t) m
+      go : (b c : Bool) → (if b then (if c then with_tried s₁ m else with_tried s₂ m) else with_tried t m)
+          ≡ with_tried (if b then (if c then s₁ else s₂) else t) m
       go true true = refl
       go true false = refl
       go false true = refl
@@ -191,7 +203,8 @@ pub track_is : (r p : ℕ) (n : Noted) (m : ParserState) → is_atomic m.atomici
     → Pest.track r p n.positives n.negatives n.total m ≡ with_tried (tracked r p n (is_negative m.lookahead) (tried_of m)) m
 track_is r p n m e =
     rw e
-    (ap (λ (s : ParserState). if grew n (noted p (tried_of m)) then m else Pest.push_attempt r p (Pest.advance_attempts p s)) (truncate_is r p n (tried_of m) m)
+    (ap (λ (s : ParserState). if grew n (noted p (tried_of m)) then m else Pest.push_attempt r p (Pest.advance_attempts p s))
+        (truncate_is r p n (tried_of m) m)
     ∙ ap (λ (s : ParserState). if grew n (noted p (tried_of m)) then m else Pest.push_attempt r p s) (advance_is r p n (truncated p n (tried_of m)) m)
     ∙ ap (λ (s : ParserState). if grew n (noted p (tried_of m)) then m else s) (push_is r p n (advanced p (truncated p n (tried_of m))) m)
     ∙ with_if (grew n (noted p (tried_of m))) (tried_of m) _ m)

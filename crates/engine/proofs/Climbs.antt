@@ -72,7 +72,8 @@ goes_yes a b s k Coded-of.Ok h = simp h
 goes_yes a b s k Coded-of.Err h = simp h
 goes_yes a b s k (Coded-of.Stop c) h = absurd (false≢true h)
 
-pub goes_no : (a b : List ℕ) (s : Code.ParserState) (k : ℕ) (e : Coded.Ending) → goes k e ≡ false → stay (view_end a b s e) ≡ going k (view_end a b s e)
+pub goes_no : (a b : List ℕ) (s : Code.ParserState) (k : ℕ) (e : Coded.Ending) → goes k e ≡ false
+    → stay (view_end a b s e) ≡ going k (view_end a b s e)
 unfolding going goes
 goes_no a b s k Coded-of.Ok h = simp h
 goes_no a b s k Coded-of.Err h = simp h
@@ -94,26 +95,32 @@ Lower l a = (1 ≤ a) × (a < l)
 pub record Forked (ns : List ℤ) (literals : List ℕ) : Type 0 where
   pub whole : line_count ns * 4 ≡ length ns
   pub lower : (l : ℕ) → 1 ≤ l → l ≤ line_count ns → Fork (kind_at ns l) → Lower l (left_of ns l) × Lower l (right_of ns l)
-  pub and_tree : (l : ℕ) → 1 ≤ l → l ≤ line_count ns → kind_at ns l ≡ 6 → tree_at ns literals l ≡ and_then (tree_at ns literals (left_of ns l)) (tree_at ns literals (right_of ns l))
-  pub or_tree : (l : ℕ) → 1 ≤ l → l ≤ line_count ns → kind_at ns l ≡ 7 → tree_at ns literals l ≡ or_else (tree_at ns literals (left_of ns l)) (tree_at ns literals (right_of ns l))
+  pub and_tree : (l : ℕ) → 1 ≤ l → l ≤ line_count ns → kind_at ns l ≡ 6
+      → tree_at ns literals l ≡ and_then (tree_at ns literals (left_of ns l)) (tree_at ns literals (right_of ns l))
+  pub or_tree : (l : ℕ) → 1 ≤ l → l ≤ line_count ns → kind_at ns l ≡ 7
+      → tree_at ns literals l ≡ or_else (tree_at ns literals (left_of ns l)) (tree_at ns literals (right_of ns l))
 
 module _ (ns : List ℤ) (literals text : List ℕ) (capacity d : ℕ) (k : Forked ns literals) where
   abbrev pub at_line : (line : ℕ) → ParserState → Ending ParserState
   at_line l m = evaluated ns literals text capacity d (tree_at ns literals l) m
 
-  eval_and : (x y : Exp) (m : ParserState) → evaluated ns literals text capacity d (and_then x y) m ≡ on_ok (evaluated ns literals text capacity d x m) (λ n. evaluated ns literals text capacity d y n)
+  eval_and : (x y : Exp) (m : ParserState) → evaluated ns literals text capacity d (and_then x y) m
+      ≡ on_ok (evaluated ns literals text capacity d x m) (λ n. evaluated ns literals text capacity d y n)
   unfolding evaluated
   eval_and x y m = go d
     where
-      go : (d : ℕ) → Pest.eval (setting_of ns literals text capacity) true d (and_then x y) m ≡ on_ok (Pest.eval (setting_of ns literals text capacity) true d x m) (λ n. Pest.eval (setting_of ns literals text capacity) true d y n)
+      go : (d : ℕ) → Pest.eval (setting_of ns literals text capacity) true d (and_then x y) m
+          ≡ on_ok (Pest.eval (setting_of ns literals text capacity) true d x m) (λ n. Pest.eval (setting_of ns literals text capacity) true d y n)
       go zero = refl
       go (suc d) = refl
 
-  eval_or : (x y : Exp) (m : ParserState) → evaluated ns literals text capacity d (or_else x y) m ≡ on_err (evaluated ns literals text capacity d x m) (λ n. evaluated ns literals text capacity d y n)
+  eval_or : (x y : Exp) (m : ParserState) → evaluated ns literals text capacity d (or_else x y) m
+      ≡ on_err (evaluated ns literals text capacity d x m) (λ n. evaluated ns literals text capacity d y n)
   unfolding evaluated
   eval_or x y m = go d
     where
-      go : (d : ℕ) → Pest.eval (setting_of ns literals text capacity) true d (or_else x y) m ≡ on_err (Pest.eval (setting_of ns literals text capacity) true d x m) (λ n. Pest.eval (setting_of ns literals text capacity) true d y n)
+      go : (d : ℕ) → Pest.eval (setting_of ns literals text capacity) true d (or_else x y) m
+          ≡ on_err (Pest.eval (setting_of ns literals text capacity) true d x m) (λ n. Pest.eval (setting_of ns literals text capacity) true d y n)
       go zero = refl
       go (suc d) = refl
 
@@ -128,9 +135,13 @@ module _ (ns : List ℤ) (literals text : List ℕ) (capacity d : ℕ) (k : Fork
   pub fork_eval : (l : ℕ) (m : ParserState) → 1 ≤ l → l ≤ line_count ns → Fork (kind_at ns l) → step l (at_line (left_of ns l) m) ≡ at_line l m
   unfolding step
   fork_eval l m lo hi (inl e) =
-      going_and (at_line (right_of ns l)) (kind_at ns l) e (at_line (left_of ns l) m) ∙ sym (ap (λ (x : Exp). evaluated ns literals text capacity d x m) (k.and_tree l lo hi e) ∙ eval_and (tree_at ns literals (left_of ns l)) (tree_at ns literals (right_of ns l)) m)
+      going_and (at_line (right_of ns l)) (kind_at ns l) e (at_line (left_of ns l) m)
+          ∙ sym (ap (λ (x : Exp). evaluated ns literals text capacity d x m) (k.and_tree l lo hi e)
+          ∙ eval_and (tree_at ns literals (left_of ns l)) (tree_at ns literals (right_of ns l)) m)
   fork_eval l m lo hi (inr e) =
-      going_or (at_line (right_of ns l)) (kind_at ns l) e (at_line (left_of ns l) m) ∙ sym (ap (λ (x : Exp). evaluated ns literals text capacity d x m) (k.or_tree l lo hi e) ∙ eval_or (tree_at ns literals (left_of ns l)) (tree_at ns literals (right_of ns l)) m)
+      going_or (at_line (right_of ns l)) (kind_at ns l) e (at_line (left_of ns l) m)
+          ∙ sym (ap (λ (x : Exp). evaluated ns literals text capacity d x m) (k.or_tree l lo hi e)
+          ∙ eval_or (tree_at ns literals (left_of ns l)) (tree_at ns literals (right_of ns l)) m)
 
   module _ (top : ℕ) (lo : 1 ≤ top) (hi : top ≤ line_count ns) where
     pub slopes : Slopes ns top
@@ -168,15 +179,18 @@ module _ (ns : List ℤ) (literals text : List ℕ) (capacity d : ℕ) (k : Fork
 
       -- One line up: what its right side makes of its left side's ending.
       pub climb_runs : (m : ParserState) (i : ℕ) (x : Ending ParserState) → 1 ≤ i → i ≤ p.count → x ≡ at_line (spine_line ns top i) m
-          → (l : ℕ) → l ≡ spine_line ns top (i - 1) → (n : Line) → n ≡ line_of (node_at ns l) → (y : Ending ParserState) → y ≡ onto (at_line n.b) (going n.kind x) → y ≡ at_line (spine_line ns top (i - 1)) m
+          → (l : ℕ) → l ≡ spine_line ns top (i - 1) → (n : Line) → n ≡ line_of (node_at ns l) → (y : Ending ParserState)
+              → y ≡ onto (at_line n.b) (going n.kind x) → y ≡ at_line (spine_line ns top (i - 1)) m
       climb_runs m i x lo₁ hi₁ r l q n e y f =
           let v = spine_in ns top slopes (i - 1) (forks_below (i - 1) (omega arith)) in
           let u : i ≡ i - 1 + 1 = omega arith in
           f ∙ step_of l n x e ∙ ap (λ (z : ℕ). step z x) q
-          ∙ ap (step (spine_line ns top (i - 1))) (r ∙ ap (λ (j : ℕ). at_line (spine_line ns top j) m) u ∙ ap (λ (l : ℕ). at_line l m) (spine_next ns top (i - 1)))
+          ∙ ap (step (spine_line ns top (i - 1))) (r ∙ ap (λ (j : ℕ). at_line (spine_line ns top j) m) u
+              ∙ ap (λ (l : ℕ). at_line l m) (spine_next ns top (i - 1)))
           ∙ fork_eval (spine_line ns top (i - 1)) m v.0 (omega (arith, v.1)) (w.forks (i - 1) (omega arith))
 
   -- The top line, from the ending of its left side.
-  pub top_runs : (top : ℕ) → 1 ≤ top → top ≤ line_count ns → Fork (kind_at ns top) → (x : Ending ParserState) (m : ParserState) → x ≡ at_line (left_of ns top) m
+  pub top_runs : (top : ℕ) → 1 ≤ top → top ≤ line_count ns → Fork (kind_at ns top) → (x : Ending ParserState) (m : ParserState)
+      → x ≡ at_line (left_of ns top) m
       → (n : Line) → n ≡ line_of (node_at ns top) → (y : Ending ParserState) → y ≡ onto (at_line n.b) (going n.kind x) → y ≡ at_line top m
   top_runs top lo hi k x m r n e y f = f ∙ step_of top n x e ∙ ap (step top) r ∙ fork_eval top m lo hi k

@@ -27,7 +27,8 @@ insert_length : (x : ℕ) (l : List ℕ) → length (insert x l) ≤ suc (length
 insert_length x [] = omega arith
 insert_length x (y ∷ l) = go (ltb x y) (eqb x y) (insert_length x l)
   where
-    go : (b c : Bool) → length (insert x l) ≤ suc (length l) → length (if b then x ∷ y ∷ l else if c then y ∷ l else y ∷ insert x l) ≤ suc (suc (length l))
+    go : (b c : Bool) → length (insert x l) ≤ suc (length l)
+        → length (if b then x ∷ y ∷ l else if c then y ∷ l else y ∷ insert x l) ≤ suc (suc (length l))
     go true c h = omega arith
     go false true h = omega arith
     go false false h = omega (arith, h)
@@ -41,5 +42,6 @@ rules_few a at n = omega (arith, ascending_length (numbers a at n), numbers_leng
 
 -- ── An outcome by its parts ──
 pub outcome_ext : {k p c c' : ℕ} {t t' r r' : List ℕ} → c ≡ c' → t ≡ t' → r ≡ r'
-    → ◌≡◌ {A = Outcome} (record { number = k; place = p; count = c; tokens = t; report = r }) (record { number = k; place = p; count = c'; tokens = t'; report = r' })
+    → ◌≡◌ {A = Outcome} (record { number = k; place = p; count = c; tokens = t; report = r })
+        (record { number = k; place = p; count = c'; tokens = t'; report = r' })
 outcome_ext {k = k} {p = p} a b d = λ i. record { number = k; place = p; count = a i; tokens = b i; report = d i }

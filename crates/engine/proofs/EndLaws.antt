@@ -23,8 +23,10 @@ abbrev pub back_to : CodeState.ParserState → BytePosition → TokenIndex → L
 back_to s p i l = Code.set_lookahead l (Code.set_queue i (Code.set_position p s))
 
 module _ (a : List ℕ) (s t : CodeState.ParserState) (p : BytePosition) (i : TokenIndex) (l : Lookahead) (e : t ≡ back_to s p i l) where
-  pub cut_view : (tokens : List ℕ) → i.0 ≤ s.queue.0 → view tokens a t ≡ set_lookahead l (set_queue (take i.0 (queue_of tokens s.queue.0)) (set_position p.0 (view tokens a s)))
-  cut_view tokens h = ap (view tokens a) e ∙ ap (λ (q : List QueueableToken). set_lookahead l (set_queue q (set_position p.0 (view tokens a s)))) (sym (queue_take tokens s.queue.0 i.0 h))
+  pub cut_view : (tokens : List ℕ) → i.0 ≤ s.queue.0
+      → view tokens a t ≡ set_lookahead l (set_queue (take i.0 (queue_of tokens s.queue.0)) (set_position p.0 (view tokens a s)))
+  cut_view tokens h = ap (view tokens a) e ∙ ap (λ (q : List QueueableToken).
+      set_lookahead l (set_queue q (set_position p.0 (view tokens a s)))) (sym (queue_take tokens s.queue.0 i.0 h))
 
 -- ── the answer of a lookahead ──
 pub looking_limit : (good : Bool) (m : ParserState) → limit_reached m ≡ true → Err m ≡ looking good m

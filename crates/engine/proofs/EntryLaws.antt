@@ -8,8 +8,10 @@ use Rattle.reading.specs.Pest.{ParserState, CallLimitTracker, set_call_tracker, 
 use Rattle.engine.specs.Entry.{opened, refused, entering, go_on}
 
 -- How the combinators' own words use it.
-pub check_limit_is : (room counted : Bool) (m : ParserState) (k : ParserState → Ending ParserState) → check_limit room counted m k ≡ go_on (entering room counted m) k
-check_limit_is room counted m k = go (Pest.enter room counted m.call_tracker).answer (set_call_tracker (Pest.enter room counted m.call_tracker).tracker m)
+pub check_limit_is : (room counted : Bool) (m : ParserState) (k : ParserState → Ending ParserState)
+    → check_limit room counted m k ≡ go_on (entering room counted m) k
+check_limit_is room counted m k = go (Pest.enter room counted m.call_tracker).answer
+    (set_call_tracker (Pest.enter room counted m.call_tracker).tracker m)
   where
     go : (b : Bool) (n : ParserState) → elim b [ false ↦ Err n | true ↦ k n ] ≡ go_on (if b then opened n else refused n) k
     go true n = refl

@@ -46,7 +46,8 @@ at_end_moves : (b : Bool) (m : ParserState) → Pest.moved (if b then Some m.pos
 at_end_moves true m = refl
 at_end_moves false m = refl
 
-module _ (ns : List ℤ) (literals text : List ℕ) (capacity d : ℕ) (w : Accepted ns literals) (l : ℕ) (i : Line ns l) (n : Read.Line) (e : n ≡ line_of (node_at ns l)) where
+module _ (ns : List ℤ) (literals text : List ℕ) (capacity d : ℕ) (w : Accepted ns literals) (l : ℕ) (i : Line ns l) (n : Read.Line)
+    (e : n ≡ line_of (node_at ns l)) where
   abbrev At : ParserState → Ending ParserState
   At m = evaluated ns literals text capacity d (tree_at ns literals l) m
 
@@ -57,23 +58,28 @@ module _ (ns : List ℤ) (literals text : List ℕ) (capacity d : ℕ) (w : Acce
     pub leaf_1 : n.kind ≡ 1 → (y : Ending ParserState) → y ≡ Pest.moved (Position.match_string text L p) m → y ≡ At m
     leaf_1 q y z = end_1 ns literals text capacity d w l i n e q m y (z ∙ ap (λ (k : ℕ). Pest.moved (Position.match_string text L k) m) (sym x))
 
-    pub leaf_2 : n.kind ≡ 2 → Fit (setting_of ns literals text capacity) m → (y : Ending ParserState) → y ≡ Pest.moved (Position.match_insensitive text L p) m → y ≡ At m
-    leaf_2 q f y z = end_2 ns literals text capacity d w l i n e q m f y (z ∙ ap (λ (k : ℕ). Pest.moved (Position.match_insensitive text L k) m) (sym x))
+    pub leaf_2 : n.kind ≡ 2 → Fit (setting_of ns literals text capacity) m → (y : Ending ParserState)
+        → y ≡ Pest.moved (Position.match_insensitive text L p) m → y ≡ At m
+    leaf_2 q f y z = end_2 ns literals text capacity d w l i n e q m f y (z
+        ∙ ap (λ (k : ℕ). Pest.moved (Position.match_insensitive text L k) m) (sym x))
 
     pub leaf_3 : n.kind ≡ 3 → (r : Option BytePosition) → r ≡ matched (Position.match_range text n.a n.b p) → Pest.moved (match_of r) m ≡ At m
     leaf_3 q r z =
         end_3 ns literals text capacity d w l i n e q m (Pest.moved (match_of r) m)
         (moved_by (Position.match_range text n.a n.b p) r m z ∙ ap (λ (k : ℕ). Pest.moved (Position.match_range text n.a n.b k) m) (sym x))
 
-    pub leaf_4 : n.kind ≡ 4 → Fit (setting_of ns literals text capacity) m → (r : Option BytePosition) → r ≡ matched (Position.skip text n.a p) → Pest.moved (match_of r) m ≡ At m
+    pub leaf_4 : n.kind ≡ 4 → Fit (setting_of ns literals text capacity) m → (r : Option BytePosition)
+        → r ≡ matched (Position.skip text n.a p) → Pest.moved (match_of r) m ≡ At m
     leaf_4 q f r z =
         end_4 ns literals text capacity d w l i n e q m f (Pest.moved (match_of r) m)
         (moved_by (Position.skip text n.a p) r m z ∙ ap (λ (k : ℕ). Pest.moved (Position.skip text n.a k) m) (sym x))
 
-    pub leaf_5 : n.kind ≡ 5 → (r : Option BytePosition) → match_of r ≡ (if Position.at_end text p then Some p else None) → Pest.moved (match_of r) m ≡ At m
+    pub leaf_5 : n.kind ≡ 5 → (r : Option BytePosition) → match_of r ≡ (if Position.at_end text p then Some p else None)
+        → Pest.moved (match_of r) m ≡ At m
     leaf_5 q r z =
         end_5 ns literals text capacity d w l i n e q m (Pest.moved (match_of r) m)
-        (ap (λ (o : Option ℕ). Pest.moved o m) (z ∙ ap (λ (k : ℕ). if Position.at_end text k then Some k else None) (sym x)) ∙ at_end_moves (Position.at_end text m.position) m)
+        (ap (λ (o : Option ℕ). Pest.moved o m) (z ∙ ap (λ (k : ℕ). if Position.at_end text k then Some k else None) (sym x))
+            ∙ at_end_moves (Position.at_end text m.position) m)
 
   -- The kind that is left; `rest` as the code's match gives it.
   pub fifth : kind_at ns l ≤ 5 → (((Unit {0} × (n.kind ≡ 1 → ⊥)) × (n.kind ≡ 2 → ⊥)) × (n.kind ≡ 3 → ⊥)) × (n.kind ≡ 4 → ⊥) → n.kind ≡ 5
@@ -90,7 +96,8 @@ kind_low ns l n e h = subst (λ (k : ℕ). k ≤ 5) (ap (λ (x : Read.Line). x.k
 same_place : (m : ParserState) (p : ℕ) → m.position ≡ p → set_position p m ≡ m
 same_place m p x = ap (λ (k : ℕ). set_position k m) (sym x)
 
-pub first_onto : (ns : List ℤ) (literals text : List ℕ) (capacity d line : ℕ) (m : ParserState) (p : ℕ) → Line ns line → Fit (setting_of ns literals text capacity) m → m.position ≡ p → Onto ns literals text capacity d line m line p
+pub first_onto : (ns : List ℤ) (literals text : List ℕ) (capacity d line : ℕ) (m : ParserState) (p : ℕ) → Line ns line
+    → Fit (setting_of ns literals text capacity) m → m.position ≡ p → Onto ns literals text capacity d line m line p
 first_onto ns literals text capacity d line m p i f x = record {
   here = i;
   upto = omega arith;
@@ -99,16 +106,20 @@ first_onto ns literals text capacity d line m p i f x = record {
 }
 
 -- A walk from where another one stands.
-pub walked_on : (ns : List ℤ) (literals text : List ℕ) (capacity d line : ℕ) (m : ParserState) (at p : ℕ) → Onto ns literals text capacity d line m at p
+pub walked_on : (ns : List ℤ) (literals text : List ℕ) (capacity d line : ℕ) (m : ParserState) (at p : ℕ)
+    → Onto ns literals text capacity d line m at p
     → (q : BytePosition) (h : Halt) → Walked ns literals text capacity d at (set_position p m) q h → Walked ns literals text capacity d line m q h
-walked_on ns literals text capacity d line m at p o q (Halt-of.At l) w = record { here = w.here; upto = omega (arith, w.upto, o.upto); fit = w.fit; runs = w.runs ∙ o.runs }
+walked_on ns literals text capacity d line m at p o q (Halt-of.At l) w =
+    record { here = w.here; upto = omega (arith, w.upto, o.upto); fit = w.fit; runs = w.runs ∙ o.runs }
 walked_on ns literals text capacity d line m at p o q (Halt-of.Done good) w = w ∙ o.runs
 
 -- What a match says of a state's ending.
-pub last_ok : (r : Option BytePosition) (m : ParserState) (q : BytePosition) (x : Ending ParserState) → Pest.moved (match_of r) m ≡ x → r ≡ Some q → Ok (set_position q.0 m) ≡ x
+pub last_ok : (r : Option BytePosition) (m : ParserState) (q : BytePosition) (x : Ending ParserState) → Pest.moved (match_of r) m ≡ x
+    → r ≡ Some q → Ok (set_position q.0 m) ≡ x
 last_ok r m q x h e = ap (λ (y : Option BytePosition). Pest.moved (match_of y) m) (sym e) ∙ h
 
-pub last_err : (r : Option BytePosition) (m : ParserState) (p : ℕ) (x : Ending ParserState) → m.position ≡ p → Pest.moved (match_of r) m ≡ x → r ≡ None → Err (set_position p m) ≡ x
+pub last_err : (r : Option BytePosition) (m : ParserState) (p : ℕ) (x : Ending ParserState) → m.position ≡ p
+    → Pest.moved (match_of r) m ≡ x → r ≡ None → Err (set_position p m) ≡ x
 last_err r m p x z h e = ap Err (same_place m p z) ∙ ap (λ (y : Option BytePosition). Pest.moved (match_of y) m) (sym e) ∙ h
 
 go_ok : (k : ℕ) → k ≡ 6 → (m : ParserState) → go m ≡ going k (Ok m)
@@ -129,7 +140,8 @@ go_err k (inl e) n m = absurd (n e)
 go_err k (inr e) n m = simp (eq-eqb k 7 e)
 
 -- The walk's fork at `at`, as read.
-module _ (ns : List ℤ) (literals : List ℕ) (w : Accepted ns literals) (at : ℕ) (i : Line ns at) (n : Read.Line) (e : n ≡ line_of (node_at ns at)) (f : Fork n.kind) where
+module _ (ns : List ℤ) (literals : List ℕ) (w : Accepted ns literals) (at : ℕ) (i : Line ns at) (n : Read.Line)
+    (e : n ≡ line_of (node_at ns at)) (f : Fork n.kind) where
   abbrev fk : Forked ns literals
   fk = forked ns literals w
 
@@ -181,7 +193,8 @@ module _ (ns : List ℤ) (literals : List ℕ) (w : Accepted ns literals) (at : 
     done_err k h = ap (onto (at_line n.b)) (stay_err n.kind k (set_position p m)) ∙ ends (Err (set_position p m)) h
 
 -- A walk's end in the evaluation's loop.
-pub walk_on : (ns : List ℤ) (literals text : List ℕ) (capacity d line : ℕ) (tokens₀ scratch₀ : List ℕ) (m₀ : ParserState) (tokens scratch : List ℕ) (at : ℕ) (m : ParserState)
+pub walk_on : (ns : List ℤ) (literals text : List ℕ) (capacity d line : ℕ) (tokens₀ scratch₀ : List ℕ) (m₀ : ParserState)
+    (tokens scratch : List ℕ) (at : ℕ) (m : ParserState)
     → Walking ns literals text capacity d line tokens₀ scratch₀ m₀ tokens scratch at m → (to p : ℕ) → Onto ns literals text capacity d at m to p
     → Walking ns literals text capacity d line tokens₀ scratch₀ m₀ tokens scratch to (set_position p m)
 walk_on ns literals text capacity d line tokens₀ scratch₀ m₀ tokens scratch at m v to p o = record {

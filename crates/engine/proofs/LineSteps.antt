@@ -59,7 +59,8 @@ module _ (ns : List ℤ) (literals : List ℕ) (w : Accepted ns literals) where
     abbrev One : (Exp → Exp) → ℕ → Type 0
     One f a = Line ns a × (tree_at ns literals l ≡ f (tree_at ns literals a))
 
-    one : (f : Exp → Exp) → Lower l (natural (node_at ns l).a) → tree_at ns literals l ≡ f (tree_at ns literals (natural (node_at ns l).a)) → One f n.a
+    one : (f : Exp → Exp) → Lower l (natural (node_at ns l).a) → tree_at ns literals l ≡ f (tree_at ns literals (natural (node_at ns l).a))
+        → One f n.a
     one f v t = subst (λ (x : Read.Line). One f x.a) (sym e) (lower_line l (natural (node_at ns l).a) i v, t)
 
     pub at_8 : K 8 → Line ns n.b × (n.a ≤ 65535) × (tree_at ns literals l ≡ Grammar.rule l n.a (tree_at ns literals n.b))
@@ -113,25 +114,31 @@ pub fork_at : (ns : List ℤ) (l : ℕ) (n : Read.Line) → n ≡ line_of (node_
 fork_at ns l n e f = subst (λ (x : Read.Line). Fork x.kind) e f
 
 -- What is evaluated of a tree is evaluated of the line that has it.
-pub by_tree : (ns : List ℤ) (literals text : List ℕ) (capacity d : ℕ) (x y : Exp) (m : ParserState) (r : Ending ParserState) → x ≡ y → r ≡ evaluated ns literals text capacity d y m → r ≡ evaluated ns literals text capacity d x m
+pub by_tree : (ns : List ℤ) (literals text : List ℕ) (capacity d : ℕ) (x y : Exp) (m : ParserState) (r : Ending ParserState) → x ≡ y
+    → r ≡ evaluated ns literals text capacity d y m → r ≡ evaluated ns literals text capacity d x m
 by_tree ns literals text capacity d x y m r e f = f ∙ ap (λ (z : Exp). evaluated ns literals text capacity d z m) (sym e)
 
 -- A call is evaluated as its rule.
 call_is : (ns : List ℤ) (literals text : List ℕ) (capacity d a : ℕ) (m : ParserState)
-    → evaluated ns literals text capacity d (Grammar.rule a (natural (node_at ns a).a) (tree_at ns literals (natural (node_at ns a).b))) m ≡ evaluated ns literals text capacity d (Grammar.call a) m
+    → evaluated ns literals text capacity d (Grammar.rule a (natural (node_at ns a).a) (tree_at ns literals (natural (node_at ns a).b))) m
+        ≡ evaluated ns literals text capacity d (Grammar.call a) m
 unfolding evaluated
 call_is ns literals text capacity d a m = go d
   where
-    go : (d : ℕ) → Pest.eval (setting_of ns literals text capacity) true d (Grammar.rule a (natural (node_at ns a).a) (tree_at ns literals (natural (node_at ns a).b))) m ≡ Pest.eval (setting_of ns literals text capacity) true d (Grammar.call a) m
+    go : (d : ℕ) → Pest.eval (setting_of ns literals text capacity) true d
+        (Grammar.rule a (natural (node_at ns a).a) (tree_at ns literals (natural (node_at ns a).b))) m
+        ≡ Pest.eval (setting_of ns literals text capacity) true d (Grammar.call a) m
     go zero = refl
     go (suc d) = refl
 
 module _ (ns : List ℤ) (literals : List ℕ) (w : Accepted ns literals) (l : ℕ) (i : Line ns l) (n : Read.Line) (e : n ≡ line_of (node_at ns l)) where
-  call_runs : (text : List ℕ) (capacity d : ℕ) (m : ParserState) (r : Ending ParserState) → kind_at ns l ≡ 20 → r ≡ evaluated ns literals text capacity d (tree_at ns literals n.a) m → r ≡ evaluated ns literals text capacity d (tree_at ns literals l) m
+  call_runs : (text : List ℕ) (capacity d : ℕ) (m : ParserState) (r : Ending ParserState) → kind_at ns l ≡ 20
+      → r ≡ evaluated ns literals text capacity d (tree_at ns literals n.a) m → r ≡ evaluated ns literals text capacity d (tree_at ns literals l) m
   call_runs text capacity d m r q f =
       let v : Line ns n.a × (kind_at ns n.a ≡ 8) = called_line ns literals w l i n e q in
       by_tree ns literals text capacity d _ _ m r (at_20 ns literals w l i n e q)
-      (f ∙ ap (λ (x : Exp). evaluated ns literals text capacity d x m) (at_8 ns literals w n.a v.0 (line_of (node_at ns n.a)) refl v.1).2 ∙ call_is ns literals text capacity d n.a m)
+      (f ∙ ap (λ (x : Exp). evaluated ns literals text capacity d x m) (at_8 ns literals w n.a v.0 (line_of (node_at ns n.a)) refl v.1).2
+          ∙ call_is ns literals text capacity d n.a m)
 
   -- A line of kind 8 or 20, by the line of its rule.
   module _ (k : (n.kind ≡ 8) ⊎ (n.kind ≡ 20)) (v : ℕ) (h : v ≡ (if eqb n.kind 20 then n.a else l)) where
@@ -146,9 +153,11 @@ module _ (ns : List ℤ) (literals : List ℕ) (w : Accepted ns literals) (l : �
       where
         go : (n.kind ≡ 8) ⊎ (n.kind ≡ 20) → Line ns v × (kind_at ns v ≡ 8)
         go (inl q) = subst (λ (x : ℕ). Line ns x × (kind_at ns x ≡ 8)) (sym (itself q)) (i, kind_of ns literals w l i n e 8 q)
-        go (inr q) = subst (λ (x : ℕ). Line ns x × (kind_at ns x ≡ 8)) (sym (named q)) (called_line ns literals w l i n e (kind_of ns literals w l i n e 20 q))
+        go (inr q) = subst (λ (x : ℕ). Line ns x
+            × (kind_at ns x ≡ 8)) (sym (named q)) (called_line ns literals w l i n e (kind_of ns literals w l i n e 20 q))
 
-    pub rule_runs : (text : List ℕ) (capacity d : ℕ) (m : ParserState) (r : Ending ParserState) → r ≡ evaluated ns literals text capacity d (tree_at ns literals v) m → r ≡ evaluated ns literals text capacity d (tree_at ns literals l) m
+    pub rule_runs : (text : List ℕ) (capacity d : ℕ) (m : ParserState) (r : Ending ParserState)
+        → r ≡ evaluated ns literals text capacity d (tree_at ns literals v) m → r ≡ evaluated ns literals text capacity d (tree_at ns literals l) m
     rule_runs text capacity d m r f = go k
       where
         at : (x : ℕ) → v ≡ x → r ≡ evaluated ns literals text capacity d (tree_at ns literals x) m

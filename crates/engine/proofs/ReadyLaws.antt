@@ -25,7 +25,8 @@ ready_of a s r v k = record {
 }
 
 -- From the equation that a call ensures: v is what Pest's operation gives, b and s are scratch and the stack after the call.
-pub ready_after : (a b : List ℕ) (s : Stack) (v : Pest.Stack) → 4864 ≤ length a → OutsideStack a b → stack_of b s ≡ v → Sound v → length v.lengths ≤ 1024 → StackReady b s
+pub ready_after : (a b : List ℕ) (s : Stack) (v : Pest.Stack) → 4864 ≤ length a → OutsideStack a b → stack_of b s ≡ v → Sound v
+    → length v.lengths ≤ 1024 → StackReady b s
 ready_after a b s v r o e f k = ready_of b s (omega (arith, o.size)) (rw e f) (omega (arith, ap (λ (w : Pest.Stack). length w.lengths) e))
 
 -- ── Stack and attempts, left to one another ──

@@ -31,11 +31,13 @@ pub same_above : {lo hi : ℕ} {a b : List ℕ} (from to : ℕ) → hi ≤ from 
 same_above from to h o = λ k l m. o.above k (omega arith)
 
 pub outside_set : (a : List ℕ) (i v : ℕ) → Outside i (i + 1) a (set a i v)
-outside_set a i v = record { size = length-set a i v; below = λ k l. sym (get_or-set_other a i k v 0 (omega arith)); above = λ k l. sym (get_or-set_other a i k v 0 (omega arith)) }
+outside_set a i v = record { size = length-set a i v; below = λ k l. sym (get_or-set_other a i k v 0 (omega arith)); above = λ k l.
+    sym (get_or-set_other a i k v 0 (omega arith)) }
 
 pub outside_put : (a : List ℕ) (at x y : ℕ) → Outside at (at + 2) a (put a at x y)
 unfolding put
-outside_put a at x y = outside_trans (outside_wider (omega arith) (omega arith) (outside_set a at x)) (outside_wider (omega arith) (omega arith) (outside_set (set a at x) (at + 1) y))
+outside_put a at x y = outside_trans (outside_wider (omega arith) (omega arith) (outside_set a at x))
+    (outside_wider (omega arith) (omega arith) (outside_set (set a at x) (at + 1) y))
 
 -- What lies below the attempts, and what lies after them, is the stack's.
 pub stack_refl : (a : List ℕ) → OutsideStack a a
@@ -69,7 +71,8 @@ module _ {A : Type 0} (mk : ℕ → ℕ → A) where
   pairs_drop_add : (a : List ℕ) (at d n : ℕ) → drop d (pairs mk a at (d + n)) ≡ pairs mk a at n
   unfolding pairs
   pairs_drop_add a at zero n = let e : 0 + n ≡ n = omega arith in ap (λ (m : ℕ). pairs mk a at m) e
-  pairs_drop_add a at (suc d) n = let e : suc d + n ≡ suc (d + n) = omega arith in ap (λ (m : ℕ). drop (suc d) (pairs mk a at m)) e ∙ pairs_drop_add a at d n
+  pairs_drop_add a at (suc d) n = let e : suc d + n ≡ suc (d + n) = omega arith in ap (λ (m : ℕ). drop (suc d) (pairs mk a at m)) e
+      ∙ pairs_drop_add a at d n
 
   pub pairs_drop : (a : List ℕ) (at d m n : ℕ) → d + n ≡ m → drop d (pairs mk a at m) ≡ pairs mk a at n
   pairs_drop a at d m n e = rw (← e) (pairs_drop_add a at d n)
@@ -85,12 +88,14 @@ module _ {A : Type 0} (mk : ℕ → ℕ → A) where
       (sym (pairs_same a (put a (at + n * 2) x y) at n (same_below at (at + n * 2) (omega arith) (outside_put a (at + n * 2) x y))))
 
   -- The last pair.
-  pub pairs_last : (a : List ℕ) (at m n : ℕ) → m ≡ suc n → pairs mk a at m ≡ mk (get_or a (at + n * 2) 0) (get_or a (at + n * 2 + 1) 0) ∷ pairs mk a at n
+  pub pairs_last : (a : List ℕ) (at m n : ℕ) → m ≡ suc n
+      → pairs mk a at m ≡ mk (get_or a (at + n * 2) 0) (get_or a (at + n * 2 + 1) 0) ∷ pairs mk a at n
   unfolding pairs
   pairs_last a at m n e = ap (λ (k : ℕ). pairs mk a at k) e
 
   -- The pair that stands n below the last.
-  pub pairs_getD : (a : List ℕ) (at n k p : ℕ) (d : A) → p ≡ n + suc k → get_or (pairs mk a at p) n d ≡ mk (get_or a (at + k * 2) 0) (get_or a (at + k * 2 + 1) 0)
+  pub pairs_getD : (a : List ℕ) (at n k p : ℕ) (d : A) → p ≡ n + suc k
+      → get_or (pairs mk a at p) n d ≡ mk (get_or a (at + k * 2) 0) (get_or a (at + k * 2 + 1) 0)
   unfolding pairs
   pairs_getD a at zero k p d e = let f : p ≡ suc k = omega arith in ap (λ (m : ℕ). get_or (pairs mk a at m) 0 d) f
   pairs_getD a at (suc n) k p d e =

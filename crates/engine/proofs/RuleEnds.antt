@@ -40,7 +40,9 @@ module _ (g : Setting) (due : Bool) (line r p : ℕ) (n : Noted) (m : ParserStat
       kept e false = ap (λ (x : ParserState). x.position) (track_is r p n m e)
 
       go : (d b : Bool) → is_atomic m.atomicity ≡ b
-          → At (elim (d && not b) [ false ↦ Ok m | true ↦ stop_if (ltb most_attempts (length t.pos_attempts) || ltb most_attempts (length t.neg_attempts)) (AttemptsFull line) (λ _. Ok t) ]) m.position
+          → At (elim (d && not b) [ false ↦ Ok m
+              | true ↦ stop_if (ltb most_attempts (length t.pos_attempts) || ltb most_attempts (length t.neg_attempts)) (AttemptsFull line)
+              (λ _. Ok t) ]) m.position
       go false b e = refl
       go true true e = refl
       go true false e = kept e (ltb most_attempts (length t.pos_attempts) || ltb most_attempts (length t.neg_attempts))
@@ -56,7 +58,8 @@ module _ (g : Setting) (due : Bool) (o : Begun) (m : ParserState) (tokens b : Li
       ap (λ (x : Ending ParserState). on_ok x k) (sym (ap (view_end tokens b s) same) ∙ h)
       ∙ sym (tracking_then g o.line o.rule due o.position.0 o.noted.positives o.noted.negatives o.noted.total m k)
 
-  pub after_ok : due ≡ is_negative m.lookahead → {e : Ending ParserState} → e ≡ on_ok (view_end tokens b s z) (λ t. close_rule g true o.line o.rule o.index.0 t)
+  pub after_ok : due ≡ is_negative m.lookahead → {e : Ending ParserState}
+      → e ≡ on_ok (view_end tokens b s z) (λ t. close_rule g true o.line o.rule o.index.0 t)
       → e ≡ rule_ended g o (Ok m)
   after_ok d q =
       let close = λ (t : ParserState). close_rule g true o.line o.rule o.index.0 t in

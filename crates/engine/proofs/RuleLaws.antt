@@ -21,7 +21,8 @@ use Rattle.engine.specs.declared.parser_state.ParserState as DeclaredState
 use Rattle.reading.specs.Ending.{Ending, Ok, Stop, on_ok, stop_if, is_negative, is_atomic}
 use Rattle.reading.specs.Reading.{Setting, most_attempts}
 use Rattle.reading.specs.Pest as Pest
-use Rattle.reading.specs.Pest.{ParserState, QueueableToken, Start, End, produces, with_end, set_queue, push_token, tracking, close_rule, tag_last, tag_node}
+use Rattle.reading.specs.Pest.{ParserState, QueueableToken, Start, End, produces, with_end, set_queue, push_token, tracking, close_rule}
+use Rattle.reading.specs.Pest.{tag_last, tag_node}
 use Rattle.engine.specs.Areas.{Outside, view, queue_of, stack_of, span, checkpoint, positives_at, lengths_at, entries_at, popped_at}
 use Rattle.engine.specs.Attempts.{Tried, tried, tried_of, with_tried, noted, tracked, within}
 use Rattle.engine.specs.Tokens.{Paired, Pushed}
@@ -42,10 +43,12 @@ module _ {A : Type 0} (b : Bool) (x y : A) where
 -- ── push ──
 module _ (g : Setting) (line : ℕ) (t : QueueableToken) (m : ParserState) where
   push_ok : length m.queue < g.capacity → Ok (set_queue (m.queue ++ (t ∷ [])) m) ≡ push_token g true line t m (λ s. Ok s)
-  push_ok l = when_false (leb g.capacity (length m.queue)) (Ok (set_queue (m.queue ++ (t ∷ [])) m)) (Stop (TokensFull line)) (lt-leb g.capacity (length m.queue) l)
+  push_ok l = when_false (leb g.capacity (length m.queue)) (Ok (set_queue (m.queue ++ (t ∷ [])) m)) (Stop (TokensFull line))
+      (lt-leb g.capacity (length m.queue) l)
 
   push_full : g.capacity ≤ length m.queue → Stop (TokensFull line) ≡ push_token g true line t m (λ s. Ok s)
-  push_full l = when_true (leb g.capacity (length m.queue)) (Ok (set_queue (m.queue ++ (t ∷ [])) m)) (Stop (TokensFull line)) (le-leb g.capacity (length m.queue) l)
+  push_full l = when_true (leb g.capacity (length m.queue)) (Ok (set_queue (m.queue ++ (t ∷ [])) m)) (Stop (TokensFull line))
+      (le-leb g.capacity (length m.queue) l)
 
 -- ── start ──
 module _ (g : Setting) (line : ℕ) (m : ParserState) where
@@ -56,13 +59,15 @@ module _ (g : Setting) (line : ℕ) (m : ParserState) where
       ∙ when_true (produces m) (Ok m) (push_token g true line (Start 0 m.position) m (λ s. Ok s)) t
 
   pub start_full : produces m ≡ true → g.capacity ≤ length m.queue → Stop (TokensFull line) ≡ starting g line m
-  start_full t l = push_full g line (Start 0 m.position) m l ∙ when_true (produces m) (Ok m) (push_token g true line (Start 0 m.position) m (λ s. Ok s)) t
+  start_full t l = push_full g line (Start 0 m.position) m l
+      ∙ when_true (produces m) (Ok m) (push_token g true line (Start 0 m.position) m (λ s. Ok s)) t
 
   pub start_off : produces m ≡ false → Ok m ≡ starting g line m
   start_off f = when_false (produces m) (Ok m) (push_token g true line (Start 0 m.position) m (λ s. Ok s)) f
 
 -- What was read of the state, put for what the state has.
-pub pushed_at : (a b : List ℕ) (s : DeclaredState.ParserState) (n : TokenIndex) (p : BytePosition) (f : ℕ → QueueableToken) → n ≡ s.queue → p ≡ s.position → Pushed a n.0 (f p.0) b
+pub pushed_at : (a b : List ℕ) (s : DeclaredState.ParserState) (n : TokenIndex) (p : BytePosition) (f : ℕ → QueueableToken) → n ≡ s.queue
+    → p ≡ s.position → Pushed a n.0 (f p.0) b
     → Pushed a s.queue.0 (f s.position.0) b
 pushed_at a b s n p f e h q = rw (e, h) at q
 
@@ -75,7 +80,8 @@ module _ (g : Setting) (line r i : ℕ) (m : ParserState) where
   same_size : length (partnered i m.queue) ≡ length m.queue
   same_size = length-set m.queue i (with_end (length m.queue) (get_or m.queue i (Start 0 0)))
 
-  pub close_ok : (q₁ q : List QueueableToken) → produces m ≡ true → length m.queue < g.capacity → q₁ ≡ partnered i m.queue → q ≡ q₁ ++ (End i r 0 m.position ∷ [])
+  pub close_ok : (q₁ q : List QueueableToken) → produces m ≡ true → length m.queue < g.capacity → q₁ ≡ partnered i m.queue
+      → q ≡ q₁ ++ (End i r 0 m.position ∷ [])
       → Ok (set_queue q m) ≡ close_rule g true line r i m
   close_ok q₁ q t l e h =
       ap (λ (x : List QueueableToken). Ok (set_queue x m)) (h ∙ ap (λ (x : List QueueableToken). x ++ (End i r 0 m.position ∷ [])) e)
@@ -100,7 +106,8 @@ module _ (a : List ℕ) (n q : TokenIndex) (same : n ≡ q) (capacity c : ℕ) (
 
 -- What a push asks.
 -- One more token than were read.
-pub one_more : (tokens scratch : List ℕ) (s t : DeclaredState.ParserState) (n : TokenIndex) → n ≡ s.queue → t ≡ Declared.set_queue (record { 0 = n.0 + 1 }) s
+pub one_more : (tokens scratch : List ℕ) (s t : DeclaredState.ParserState) (n : TokenIndex) → n ≡ s.queue
+    → t ≡ Declared.set_queue (record { 0 = n.0 + 1 }) s
     → view tokens scratch t ≡ set_queue (queue_of tokens (s.queue.0 + 1)) (view tokens scratch s)
 one_more tokens scratch s t n e h = rw (h, e)
 
@@ -138,7 +145,8 @@ stack_kept a b s h p o = sym (λ i. record {
 })
 
 -- The state with other attempts, seen from the area as tracking left it.
-pub kept_view : (tokens a b : List ℕ) (s : DeclaredState.ParserState) (u : Attempts) → s.stack.height ≤ 128 → s.stack.popped ≤ 1024 → Outside positives_at lengths_at a b
+pub kept_view : (tokens a b : List ℕ) (s : DeclaredState.ParserState) (u : Attempts) → s.stack.height ≤ 128 → s.stack.popped ≤ 1024
+    → Outside positives_at lengths_at a b
     → view tokens b (Declared.set_attempts u s)
     ≡ with_tried (tried b u) (view tokens a s)
 kept_view tokens a b s u h p o = ap (λ (v : Pest.Stack). Pest.set_stack v (with_tried (tried b u) (view tokens a s))) (stack_kept a b s.stack h p o)
@@ -164,7 +172,8 @@ module _ (g : Setting) (due : Bool) (line r p : ℕ) (n : Noted) (m : ParserStat
   after = Pest.track r p n.positives n.negatives n.total m
 
   -- w is what tracking gave under the lookahead that `neg` tells of, and v is that answer seen again.
-  pub track_told : (v w : Option Tried) (neg : Bool) → v ≡ w → w ≡ within (tracked r p n neg (tried_of m)) → neg ≡ is_negative m.lookahead → due ≡ true → is_atomic m.atomicity ≡ false
+  pub track_told : (v w : Option Tried) (neg : Bool) → v ≡ w → w ≡ within (tracked r p n neg (tried_of m)) → neg ≡ is_negative m.lookahead
+      → due ≡ true → is_atomic m.atomicity ≡ false
       → told line v m ≡ tracking g true due line r p n.positives n.negatives n.total m (λ t. Ok t)
   track_told v w neg q e h d f =
       ap (λ (x : Option Tried). told line x m) (q ∙ e ∙ ap (λ (b : Bool). within (tracked r p n b (tried_of m))) h)
@@ -174,7 +183,8 @@ module _ (g : Setting) (due : Bool) (line r p : ℕ) (n : Noted) (m : ParserStat
 
 -- The attempts t that were read, put for those of the state, u.
 module _ (a : List ℕ) (t u : Attempts) (same : t ≡ u) where
-  pub track_read : (r p : ℕ) (n : Noted) (neg : Bool) (w : Option Tried) → w ≡ within (tracked r p n neg (tried a t)) → w ≡ within (tracked r p n neg (tried a u))
+  pub track_read : (r p : ℕ) (n : Noted) (neg : Bool) (w : Option Tried) → w ≡ within (tracked r p n neg (tried a t))
+      → w ≡ within (tracked r p n neg (tried a u))
   track_read r p n neg w h = rw same at h
 
 -- ── `rule` is its leaves ──
@@ -182,16 +192,19 @@ module _ (g : Setting) (line r : ℕ) where
   -- The start, then the body and the end of it: `f` is the body, and what is noted is noted before the start.
   pub rule_is : (f : ParserState → Ending ParserState) (m : ParserState)
       → Pest.rule g true line r f m
-      ≡ on_ok (starting g line m) (λ n. Pest.rule_end g true line r m.position (length m.queue) (noted m.position (tried_of m)).positives (noted m.position (tried_of m)).negatives (noted m.position (tried_of m)).total (f n))
+      ≡ on_ok (starting g line m) (λ n. Pest.rule_end g true line r m.position (length m.queue) (noted m.position (tried_of m)).positives
+          (noted m.position (tried_of m)).negatives (noted m.position (tried_of m)).total (f n))
   rule_is f m = go (produces m) (leb g.capacity (length m.queue))
     where
       k : ParserState → Ending ParserState
-      k n = Pest.rule_end g true line r m.position (length m.queue) (noted m.position (tried_of m)).positives (noted m.position (tried_of m)).negatives (noted m.position (tried_of m)).total (f n)
+      k n = Pest.rule_end g true line r m.position (length m.queue) (noted m.position (tried_of m)).positives
+          (noted m.position (tried_of m)).negatives (noted m.position (tried_of m)).total (f n)
 
       pushed : ParserState
       pushed = set_queue (m.queue ++ (Start 0 m.position ∷ [])) m
 
-      go : (b c : Bool) → elim b [ false ↦ k m | true ↦ stop_if c (TokensFull line) (λ _. k pushed) ] ≡ on_ok (elim b [ false ↦ Ok m | true ↦ stop_if c (TokensFull line) (λ _. Ok pushed) ]) k
+      go : (b c : Bool) → elim b [ false ↦ k m | true ↦ stop_if c (TokensFull line) (λ _. k pushed) ]
+          ≡ on_ok (elim b [ false ↦ Ok m | true ↦ stop_if c (TokensFull line) (λ _. Ok pushed) ]) k
       go true true = refl
       go true false = refl
       go false true = refl
@@ -199,12 +212,14 @@ module _ (g : Setting) (line r : ℕ) where
 
   pub tracking_then : (due : Bool) (p pi ni prev : ℕ) (m : ParserState) (k : ParserState → Ending ParserState)
       → tracking g true due line r p pi ni prev m k ≡ on_ok (tracking g true due line r p pi ni prev m (λ t. Ok t)) k
-  tracking_then due p pi ni prev m k = go (due && not (is_atomic m.atomicity)) (ltb most_attempts (length n.pos_attempts) || ltb most_attempts (length n.neg_attempts))
+  tracking_then due p pi ni prev m k = go (due && not (is_atomic m.atomicity))
+      (ltb most_attempts (length n.pos_attempts) || ltb most_attempts (length n.neg_attempts))
     where
       n : ParserState
       n = Pest.track r p pi ni prev m
 
-      go : (b c : Bool) → elim b [ false ↦ k m | true ↦ stop_if c (AttemptsFull line) (λ _. k n) ] ≡ on_ok (elim b [ false ↦ Ok m | true ↦ stop_if c (AttemptsFull line) (λ _. Ok n) ]) k
+      go : (b c : Bool) → elim b [ false ↦ k m | true ↦ stop_if c (AttemptsFull line) (λ _. k n) ]
+          ≡ on_ok (elim b [ false ↦ Ok m | true ↦ stop_if c (AttemptsFull line) (λ _. Ok n) ]) k
       go true true = refl
       go true false = refl
       go false true = refl

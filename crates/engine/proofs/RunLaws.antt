@@ -55,7 +55,10 @@ first l = record {
 
 pub first_is : (l : ℕ) (tokens scratch : List ℕ) → view tokens scratch (first l) ≡ Pest.new l
 unfolding numbers pairs queue_of
-first_is l tokens scratch = ap (λ (x : Option CallLimit). record { position = 0; queue = []; lookahead = Looks.None; pos_attempts = []; neg_attempts = []; attempt_pos = 0; atomicity = NonAtomic; stack = record { cache = []; popped = []; lengths = [] }; call_tracker = record { current_call_limit = x; limit_reached = None } }) (limit_is l)
+first_is l tokens scratch = ap (λ (x : Option CallLimit).
+    record { position = 0; queue = []; lookahead = Looks.None; pos_attempts = []; neg_attempts = []; attempt_pos = 0;
+    atomicity = NonAtomic; stack = record { cache = []; popped = []; lengths = [] }; call_tracker =
+    record { current_call_limit = x; limit_reached = None } }) (limit_is l)
 
 -- ── A refused run ──
 pub refused_is : (i : Input) (scratch : List ℕ) (r : Refused) → Some (refusal_of r) ≡ refusal i → Ran i (refused i (refusal_of r)) scratch scratch
@@ -102,7 +105,8 @@ module _ (i : Input) (e : refusal i ≡ None) where
   pub ran_is : (c : ℕ) → c ≡ capacity i.tokens → (m : ParserState) → m ≡ Pest.new i.call_limit → (r : Ending ParserState)
       → r ≡ evaluated i.nodes i.literals i.text c i.depth_limit (tree_at i.nodes i.literals (line_count i.nodes)) m → r ≡ ran
   unfolding evaluated
-  ran_is c b m n r h = h ∙ ap₂ (λ (x : ℕ) (y : ParserState). evaluated i.nodes i.literals i.text x i.depth_limit (tree_at i.nodes i.literals (line_count i.nodes)) y) b n
+  ran_is c b m n r h = h ∙ ap₂ (λ (x : ℕ) (y : ParserState).
+      evaluated i.nodes i.literals i.text x i.depth_limit (tree_at i.nodes i.literals (line_count i.nodes)) y) b n
 
   abbrev FitEnd : Ending ParserState → Type 0
   FitEnd (Ok m) = Fit (setting i) m
@@ -110,7 +114,8 @@ module _ (i : Input) (e : refusal i ≡ None) where
   FitEnd (Stop c) = Unit {0}
 
   ran_fits : FitEnd ran
-  ran_fits = go _ (eval_keeps (setting i) (rule_still i.nodes) (tested i s.grammar) i.depth_limit (root i.nodes i.literals) (root_literals i e) (root_steady i e) (Pest.new i.call_limit) first_fit)
+  ran_fits = go _ (eval_keeps (setting i) (rule_still i.nodes) (tested i s.grammar) i.depth_limit (root i.nodes i.literals)
+      (root_literals i e) (root_steady i e) (Pest.new i.call_limit) first_fit)
     where
       go : {b : _} {p : ℕ} {l : _} {a : _} {marks held : ℕ} (r : Ending ParserState) → Keeps (setting i) b p l a marks held r → FitEnd r
       go r (keeps_ok n w x) = w.fit
@@ -143,7 +148,8 @@ module _ (i : Input) (e : refusal i ≡ None) where
         go Code.Err f = concluding t f
         go (Code.Stop c) f = tt
 
-    pub run_is : (o : Outcome) (t : State.ParserState) (r : Declared.Ending) {before after : List ℕ} → view_end tokens scratch t r ≡ ran → o ≡ laid (length tokens) (length i.report) (pest_answer (view_end tokens scratch t r)) → Ran i o before after
+    pub run_is : (o : Outcome) (t : State.ParserState) (r : Declared.Ending) {before after : List ℕ} → view_end tokens scratch t r ≡ ran
+        → o ≡ laid (length tokens) (length i.report) (pest_answer (view_end tokens scratch t r)) → Ran i o before after
     run_is o t r h q = record {
       is = q ∙ ap₂ (λ (n : ℕ) (a : Answer). laid n (length i.report) a) same (ap pest_answer h ∙ sym (run_alike i e)) ∙ sym (outcome_is i e);
       left = λ x d. let z : ◌≡◌ {A = ℕ} 0 1 = cc (e, d) in absurd (omega arith);

@@ -59,7 +59,8 @@ module _ (a : List ℕ) where
         let more : take (high - low) q ≡ take (high - 1 - low) q ++ (entry_at a (high - 1) ∷ []) =
         ap (λ (n : ℕ). take n q) j
         ∙ take-suc q (high - 1 - low) d (omega (arith, up_length h, length-drop low (up h)))
-        ∙ ap (λ (x : Span). take (high - 1 - low) q ++ (x ∷ [])) (get_or-drop low (up h) (high - 1 - low) d ∙ ap (λ (n : ℕ). get_or (up h) n d) k ∙ up_at h (high - 1) d (omega arith)) in
+        ∙ ap (λ (x : Span). take (high - 1 - low) q ++ (x ∷ [])) (get_or-drop low (up h) (high - 1 - low) d
+            ∙ ap (λ (n : ℕ). get_or (up h) n d) k ∙ up_at h (high - 1) d (omega arith)) in
         ap (λ (x : List Span). reverse x) more ∙ reverse-append (take (high - 1 - low) q) (entry_at a (high - 1) ∷ [])
 
   -- What is left of a slice at turn k.
@@ -85,7 +86,8 @@ pub matched_failed : (o : Option ℕ) → matched o ≡ None → o ≡ None
 matched_failed None e = refl
 matched_failed (Some p) e = let z : ◌≡◌ {A = ℕ} 0 1 = cc in absurd (omega arith)
 
-module _ (text : List ℕ) (x : Span) (bytes : List ℕ) (eb : bytes ≡ as_str text x) (p : ℕ) (r : Option BytePosition) (er : r ≡ matched (match_string text bytes p)) where
+module _ (text : List ℕ) (x : Span) (bytes : List ℕ) (eb : bytes ≡ as_str text x) (p : ℕ) (r : Option BytePosition)
+    (er : r ≡ matched (match_string text bytes p)) where
   -- What a string that was matched by the crate below says of pest's match of an entry.
   pub entry_at_end : (q : BytePosition) → r ≡ Some q → Pest.match_string text (as_str text x) p ≡ Some q.0
   entry_at_end q e = rw (← eb) (match_string_same text bytes p ∙ matched_at (match_string text bytes p) q (sym er ∙ e))
@@ -112,7 +114,8 @@ module _ (text a : List ℕ) (down : Bool) (start end : ℕ) (pos : BytePosition
     pub rest : (h : ℕ) → end ≤ h → all_match text (left a start end k down h) at.0 ≡ all_match text (slice start end down (pairs span a 0 h)) pos.0
 
   module _ (k : ℕ) (at : BytePosition) (w : Left k at) (m : start ≤ k) where
-    module _ (l : k < end) (i : ℕ) (ei : i ≡ index_at start end k down) (bytes : List ℕ) (eb : bytes ≡ as_str text (entry_at a i)) (r : Option BytePosition) (er : r ≡ matched (match_string text bytes at.0)) where
+    module _ (l : k < end) (i : ℕ) (ei : i ≡ index_at start end k down) (bytes : List ℕ) (eb : bytes ≡ as_str text (entry_at a i))
+        (r : Option BytePosition) (er : r ≡ matched (match_string text bytes at.0)) where
       next : (h : ℕ) → end ≤ h → left a start end k down h ≡ entry_at a i ∷ left a start end (k + 1) down h
       next h g = left_next a start end k down h m l g ∙ ap (λ (j : ℕ). entry_at a j ∷ left a start end (k + 1) down h) (sym ei)
 

@@ -25,7 +25,8 @@ use Rattle.engine.specs.declared.parser_state.ParserState.{ParserState}
 use Rattle.reading.specs.declared.parser_state.Cause.TheVariants.{EmptyStack, StackFull}
 use Rattle.reading.specs.Ending.{Ending, Ok, Err, Stop, stop_if, Span}
 use Rattle.reading.specs.Reading.{debt}
-use Rattle.reading.specs.Pest.{set_position, set_stack, push, pop, as_str, moved, stack_pop, stack_match_pop, stack_match_peek_slice, normalize_index, normalize_end, slice, all_match}
+use Rattle.reading.specs.Pest.{set_position, set_stack, push, pop, as_str, moved, stack_pop, stack_match_pop, stack_match_peek_slice}
+use Rattle.reading.specs.Pest.{normalize_index, normalize_end, slice, all_match}
 use Rattle.engine.specs.Areas.{span, stack_of, view, view_end}
 use Rattle.engine.specs.Bounded.{Take, got, pushed, taken, taken_from, take_of}
 use Rattle.reading.specs.Sound.{Sound}
@@ -39,7 +40,8 @@ use Rattle.engine.proofs.Matching.{match_string_same}
 use Rattle.engine.proofs.PopMatch.{Took, took}
 
 -- What the cycle asks of a state, from what holds of pest's.
-pub state_ready : (tokens a : List ℕ) (s : ParserState) → 4864 ≤ length a → Sound (view tokens a s).stack → length (view tokens a s).stack.lengths ≤ 1024
+pub state_ready : (tokens a : List ℕ) (s : ParserState) → 4864 ≤ length a → Sound (view tokens a s).stack
+    → length (view tokens a s).stack.lengths ≤ 1024
     → length (view tokens a s).pos_attempts ≤ 256 → length (view tokens a s).neg_attempts ≤ 256 → StateReady a s
 state_ready tokens a s r v k p n = record {
   stack = ready_of a s.stack r v k;
@@ -52,13 +54,16 @@ abbrev with_parts : Pest.ParserState → List ℕ → List ℕ → Pest.Stack �
 with_parts m ps ns v = record m { pos_attempts = ps; neg_attempts = ns; stack = v }
 
 module _ {a b : List ℕ} {s t : ParserState} (r : StateReady a s) (o : OutsideStack a b) where
-  view_stack : (w : Stack) (v : Pest.Stack) → stack_of b w ≡ v → t ≡ Fields.set_stack w s → (tokens : List ℕ) → view tokens b t ≡ set_stack v (view tokens a s)
+  view_stack : (w : Stack) (v : Pest.Stack) → stack_of b w ≡ v → t ≡ Fields.set_stack w s → (tokens : List ℕ)
+      → view tokens b t ≡ set_stack v (view tokens a s)
   view_stack w v e et tokens =
       ap (view tokens b) et
-      ∙ (λ i. with_parts (view tokens a s) (positives_kept a b o s.attempts.positives r.positives i) (negatives_kept a b o s.attempts.negatives r.negatives i) (e i))
+      ∙ (λ i. with_parts (view tokens a s) (positives_kept a b o s.attempts.positives r.positives i)
+          (negatives_kept a b o s.attempts.negatives r.negatives i) (e i))
 
 -- checkpoint, checkpoint_ok, restored
-pub stack_changed : (f : Pest.Stack → Pest.Stack) {a b : List ℕ} {s t : ParserState} {v : Stack} (w : Stack) → StateReady a s → v ≡ s.stack → (stack_of b w ≡ f (stack_of a v)) × OutsideStack a b
+pub stack_changed : (f : Pest.Stack → Pest.Stack) {a b : List ℕ} {s t : ParserState} {v : Stack} (w : Stack) → StateReady a s → v ≡ s.stack
+    → (stack_of b w ≡ f (stack_of a v)) × OutsideStack a b
     → t ≡ Fields.set_stack w s → ((tokens : List ℕ) → view tokens b t ≡ set_stack (f (stack_of a s.stack)) (view tokens a s)) × OutsideStack a b
 stack_changed f {a} {b} {s} w r ev e et = (view_stack r e.1 w (f (stack_of a s.stack)) (e.0 ∙ ap (λ (u : Stack). f (stack_of a u)) ev) et, e.1)
 
@@ -77,19 +82,23 @@ module _ {a b : List ℕ} {s : ParserState} (r : StateReady a s) {v : Stack} (ev
   said = e.0 ∙ ap₂ (λ (u : Stack) (n : BytePosition). pushed (span x n.0) (stack_of a u)) ev ey
 
   pub push_kept : (w : Stack) → p ≡ Some w → {t : ParserState} → t ≡ Fields.set_stack w s
-      → ((tokens : List ℕ) → Ok (view tokens b t) ≡ stop_if (leb 128 (length (stack_of a s.stack).cache)) (StackFull line) (λ _. Ok (set_stack after (view tokens a s)))) × OutsideStack a b
+      → ((tokens : List ℕ) → Ok (view tokens b t) ≡ stop_if (leb 128 (length (stack_of a s.stack).cache)) (StackFull line) (λ _.
+          Ok (set_stack after (view tokens a s)))) × OutsideStack a b
   push_kept w f {t} et = (λ tokens. go tokens (leb 128 (length (stack_of a s.stack).cache)) (rw f at said), e.1)
     where
-      go : (tokens : List ℕ) (b₀ : Bool) → Some (stack_of b w) ≡ (if b₀ then None else Some after) → Ok (view tokens b t) ≡ stop_if b₀ (StackFull line) (λ _. Ok (set_stack after (view tokens a s)))
+      go : (tokens : List ℕ) (b₀ : Bool) → Some (stack_of b w) ≡ (if b₀ then None else Some after)
+          → Ok (view tokens b t) ≡ stop_if b₀ (StackFull line) (λ _. Ok (set_stack after (view tokens a s)))
       go tokens true q = let z : ◌≡◌ {A = ℕ} 0 1 = cc in absurd (omega arith)
       go tokens false q = let u : stack_of b w ≡ after = cc in ap Ok (view_stack r e.1 w after u et tokens)
 
 -- ── stack_pop ──
 module _ (text : List ℕ) (line : ℕ) (m : Pest.ParserState) where
-  step_got : (w : Pest.Stack) (x : Span) → Took m.stack w x → moved (Pest.match_string text (as_str text x) m.position) (set_stack w m) ≡ stack_pop text true line m.stack.cache m
+  step_got : (w : Pest.Stack) (x : Span) → Took m.stack w x → moved (Pest.match_string text (as_str text x) m.position) (set_stack w m)
+      ≡ stack_pop text true line m.stack.cache m
   step_got w x t =
       sym (ap (λ (c : List Span). stack_pop text true line c m) t.cache
-      ∙ pick (ltb 1024 (debt (pop x w.cache m.stack).lengths)) (sym (ap (λ (u : Pest.Stack). ltb 1024 (debt u.lengths)) t.is) ∙ le-ltb 1024 (debt w.lengths) t.owing)
+      ∙ pick (ltb 1024 (debt (pop x w.cache m.stack).lengths)) (sym (ap (λ (u : Pest.Stack). ltb 1024 (debt u.lengths)) t.is)
+          ∙ le-ltb 1024 (debt w.lengths) t.owing)
       ∙ ap (λ (u : Pest.Stack). moved (Pest.match_string text (as_str text x) m.position) (set_stack u m)) (sym t.is))
     where
       pick : (b : Bool) → b ≡ false
@@ -111,7 +120,8 @@ module _ (text : List ℕ) (line : ℕ) (m : Pest.ParserState) where
   step_full : Take.full ≡ taken m.stack → Stop (StackFull line) ≡ stack_pop text true line m.stack.cache m
   step_full e = go m.stack.cache e
     where
-      pick : (b : Bool) (v : Pest.Stack) (y : Span) (k : Unit {0} → Ending Pest.ParserState) → Take.full ≡ (if b then Take.full else got v y) → Stop (StackFull line) ≡ stop_if b (StackFull line) k
+      pick : (b : Bool) (v : Pest.Stack) (y : Span) (k : Unit {0} → Ending Pest.ParserState)
+          → Take.full ≡ (if b then Take.full else got v y) → Stop (StackFull line) ≡ stop_if b (StackFull line) k
       pick true v y k q = refl
       pick false v y k q = let z : ◌≡◌ {A = ℕ} 0 1 = cc in absurd (omega arith)
 
@@ -126,31 +136,41 @@ module _ (text : List ℕ) (line : ℕ) {a b : List ℕ} {s : ParserState} (r : 
   took_of : take_of b p ≡ taken (stack_of a s.stack)
   took_of = e.0 ∙ ap (λ (u : Stack). taken (stack_of a u)) ev
 
-  pub pop_moved : (w : Stack) (x : Code.Span) → p ≡ Result.Ok (w, x) → {t : ParserState} → t ≡ Fields.set_stack w s → (bytes : List ℕ) → bytes ≡ bytes_of text x.start.0 x.end.0
+  pub pop_moved : (w : Stack) (x : Code.Span) → p ≡ Result.Ok (w, x) → {t : ParserState} → t ≡ Fields.set_stack w s → (bytes : List ℕ)
+      → bytes ≡ bytes_of text x.start.0 x.end.0
       → {y : BytePosition} → y ≡ s.position → (q : Option BytePosition) → q ≡ matched (match_string text bytes y.0)
-      → (end : ParserState) (z : Code·ending.Ending) → ((tokens scratch : List ℕ) → view_end tokens scratch end z ≡ moved (match_of q) (view tokens scratch t))
+      → (end : ParserState) (z : Code·ending.Ending)
+          → ((tokens scratch : List ℕ) → view_end tokens scratch end z ≡ moved (match_of q) (view tokens scratch t))
       → ((tokens : List ℕ) → view_end tokens b end z ≡ stack_pop text true line (stack_of a s.stack).cache (view tokens a s)) × OutsideStack a b
   pop_moved w x f et bytes eb {y} ey q eq end z ez = (
     λ tokens.
         ez tokens b
         ∙ ap₂ moved
-        (ap match_of eq ∙ matched_back (match_string text bytes y.0) ∙ sym (match_string_same text bytes y.0) ∙ ap₂ (λ (l : List ℕ) (n : BytePosition). Pest.match_string text l n.0) eb ey)
+        (ap match_of eq ∙ matched_back (match_string text bytes y.0) ∙ sym (match_string_same text bytes y.0)
+            ∙ ap₂ (λ (l : List ℕ) (n : BytePosition). Pest.match_string text l n.0) eb ey)
         (view_stack r e.1 w (stack_of b w) refl et tokens)
-        ∙ step_got text line (view tokens a s) (stack_of b w) (span x.start.0 x.end.0) (took (stack_of a s.stack) (stack_of b w) (span x.start.0 x.end.0) (sym (rw f at took_of))),
+        ∙ step_got text line (view tokens a s) (stack_of b w) (span x.start.0 x.end.0)
+            (took (stack_of a s.stack) (stack_of b w) (span x.start.0 x.end.0) (sym (rw f at took_of))),
     e.1,
   )
 
 -- ── stack_match_pop ──
-module _ (text : List ℕ) (line : ℕ) {a b : List ℕ} {s : ParserState} (r : StateReady a s) {v : Stack} (ev : v ≡ s.stack) {y : BytePosition} (ey : y ≡ s.position) (p : Option (Stack × Option BytePosition))
-    (e : ((l : ℕ) → (m : Pest.ParserState) → match_end b l m p ≡ stack_match_pop text true l (stack_of a v).cache y.0 (set_stack (stack_of a v) m)) × OutsideStack a b) where
-  ends : (tokens : List ℕ) → match_end b line (view tokens a s) p ≡ stack_match_pop text true line (stack_of a s.stack).cache s.position.0 (view tokens a s)
+module _ (text : List ℕ) (line : ℕ) {a b : List ℕ} {s : ParserState} (r : StateReady a s) {v : Stack} (ev : v ≡ s.stack) {y : BytePosition}
+    (ey : y ≡ s.position) (p : Option (Stack × Option BytePosition))
+    (e : ((l : ℕ) → (m : Pest.ParserState) →
+        match_end b l m p ≡ stack_match_pop text true l (stack_of a v).cache y.0 (set_stack (stack_of a v) m)) × OutsideStack a b) where
+  ends : (tokens : List ℕ) → match_end b line (view tokens a s) p ≡ stack_match_pop text true line (stack_of a s.stack).cache s.position.0
+      (view tokens a s)
   ends tokens =
       e.0 line (view tokens a s)
-      ∙ ap₂ (λ (u : Stack) (n : BytePosition). stack_match_pop text true line (stack_of a u).cache n.0 (set_stack (stack_of a u) (view tokens a s))) ev ey
+      ∙ ap₂ (λ (u : Stack) (n : BytePosition).
+          stack_match_pop text true line (stack_of a u).cache n.0 (set_stack (stack_of a u) (view tokens a s))) ev ey
 
   pub popped_some : (w : Stack) (q : Option BytePosition) → p ≡ Some (w, q) → {t : ParserState} → t ≡ Fields.set_stack w s
-      → (end : ParserState) (z : Code·ending.Ending) → ((tokens scratch : List ℕ) → view_end tokens scratch end z ≡ moved (match_of q) (view tokens scratch t))
-      → ((tokens : List ℕ) → view_end tokens b end z ≡ stack_match_pop text true line (stack_of a s.stack).cache s.position.0 (view tokens a s)) × OutsideStack a b
+      → (end : ParserState) (z : Code·ending.Ending)
+          → ((tokens scratch : List ℕ) → view_end tokens scratch end z ≡ moved (match_of q) (view tokens scratch t))
+      → ((tokens : List ℕ) → view_end tokens b end z ≡ stack_match_pop text true line (stack_of a s.stack).cache s.position.0
+          (view tokens a s)) × OutsideStack a b
   popped_some w q f et end z ez = (
     λ tokens.
         ez tokens b
@@ -161,7 +181,8 @@ module _ (text : List ℕ) (line : ℕ) {a b : List ℕ} {s : ParserState} (r : 
   )
 
   pub popped_indebted : p ≡ None
-      → ((tokens : List ℕ) → Stop (StackFull line) ≡ stack_match_pop text true line (stack_of a s.stack).cache s.position.0 (view tokens a s)) × OutsideStack a b
+      → ((tokens : List ℕ) → Stop (StackFull line) ≡ stack_match_pop text true line (stack_of a s.stack).cache s.position.0
+          (view tokens a s)) × OutsideStack a b
   popped_indebted f = (λ tokens. sym (ap (match_end b line (view tokens a s)) f) ∙ ends tokens, e.1)
 
 -- ── stack_match_peek_slice ──
@@ -197,16 +218,20 @@ module _ (text : List ℕ) (i : ℤ) (j : Option ℤ) (d : Bool) (m : Pest.Parse
       peek_nothing : end ≤ start → Ok m ≡ stack_match_peek_slice text i j d m
       peek_nothing l = sym (peek_is (Some start) (Some end) e f ∙ go (leb end start) (le-leb end start l))
         where
-          go : (b : Bool) → b ≡ true → ◌≡◌ {A = Ending Pest.ParserState} (elim b [ true ↦ Ok m | false ↦ moved (all_match text (slice start end d m.stack.cache) m.position) m ]) (Ok m)
+          go : (b : Bool) → b ≡ true → ◌≡◌ {A = Ending Pest.ParserState} (elim b
+              [ true ↦ Ok m | false ↦ moved (all_match text (slice start end d m.stack.cache) m.position) m ]) (Ok m)
           go b t = rw t
 
-      peek_moved : start < end → (q : Option BytePosition) → q ≡ matched (all_match text (slice start end d m.stack.cache) m.position) → moved (match_of q) m ≡ stack_match_peek_slice text i j d m
+      peek_moved : start < end → (q : Option BytePosition) → q ≡ matched (all_match text (slice start end d m.stack.cache) m.position)
+          → moved (match_of q) m ≡ stack_match_peek_slice text i j d m
       peek_moved l q eq =
           ap (λ (o : Option ℕ). moved o m) (ap match_of eq ∙ matched_back (all_match text (slice start end d m.stack.cache) m.position))
           ∙ sym (peek_is (Some start) (Some end) e f ∙ go (leb end start) (lt-leb end start l))
         where
           go : (b : Bool) → b ≡ false
-              → ◌≡◌ {A = Ending Pest.ParserState} (elim b [ true ↦ Ok m | false ↦ moved (all_match text (slice start end d m.stack.cache) m.position) m ]) (moved (all_match text (slice start end d m.stack.cache) m.position) m)
+              → ◌≡◌ {A = Ending Pest.ParserState} (elim b
+                  [ true ↦ Ok m | false ↦ moved (all_match text (slice start end d m.stack.cache) m.position) m ])
+                  (moved (all_match text (slice start end d m.stack.cache) m.position) m)
           go b t = rw t
 
 -- Fields b and c of kind 16.
@@ -221,7 +246,8 @@ module _ (text a : List ℕ) (i b : ℤ) (c : ℕ) (s : ParserState) (v : Stack)
   down = eqb c 1 || eqb c 3
 
   pub start_out : r ≡ None → (tokens : List ℕ) → Err (view tokens a s) ≡ stack_match_peek_slice text i (end_of c b) down (view tokens a s)
-  start_out f tokens = peek_start_out text i (end_of c b) down (view tokens a s) v.height (tall tokens) (index_out (normalize_index i v.height) r (pest_index i v.height er) f)
+  start_out f tokens = peek_start_out text i (end_of c b) down (view tokens a s) v.height (tall tokens)
+      (index_out (normalize_index i v.height) r (pest_index i v.height er) f)
 
   module _ {start : ℕ} (f : r ≡ Some start) {r₂ : Option ℕ} (er₂ : r₂ ≡ end_in v.height (end_of c b)) where
     start_is : normalize_index i v.height ≡ Some start
@@ -229,7 +255,8 @@ module _ (text a : List ℕ) (i b : ℤ) (c : ℕ) (s : ParserState) (v : Stack)
 
     pub end_out : r₂ ≡ None → (tokens : List ℕ) → Err (view tokens a s) ≡ stack_match_peek_slice text i (end_of c b) down (view tokens a s)
     end_out g tokens =
-        peek_end_out text i (end_of c b) down (view tokens a s) v.height (tall tokens) start start_is (index_out (normalize_end (end_of c b) v.height) r₂ (pest_end (end_of c b) v.height er₂) g)
+        peek_end_out text i (end_of c b) down (view tokens a s) v.height (tall tokens) start start_is
+            (index_out (normalize_end (end_of c b) v.height) r₂ (pest_end (end_of c b) v.height er₂) g)
 
     module _ {end : ℕ} (g : r₂ ≡ Some end) where
       end_is : normalize_end (end_of c b) v.height ≡ Some end
@@ -240,7 +267,8 @@ module _ (text a : List ℕ) (i b : ℤ) (c : ℕ) (s : ParserState) (v : Stack)
 
       pub slice_moved : start < end → (d : Bool) → d ≡ down → {y : BytePosition} → y ≡ s.position
           → (q : Option BytePosition) → q ≡ matched (all_match text (slice start end d (stack_of a v).cache) y.0)
-          → (t : ParserState) (z : Code·ending.Ending) → ((tokens scratch : List ℕ) → view_end tokens scratch t z ≡ moved (match_of q) (view tokens scratch s))
+          → (t : ParserState) (z : Code·ending.Ending)
+              → ((tokens scratch : List ℕ) → view_end tokens scratch t z ≡ moved (match_of q) (view tokens scratch s))
           → (tokens : List ℕ) → view_end tokens a t z ≡ stack_match_peek_slice text i (end_of c b) down (view tokens a s)
       slice_moved l d ed {y} ey q eq t z ez tokens =
           ez tokens a

@@ -42,9 +42,11 @@ use Rattle.engine.proofs.Regions.{pairs_length}
 use Rattle.engine.proofs.TokenLaws.{queue_length}
 use Rattle.engine.proofs.EntryLaws.{check_limit_is}
 use Rattle.engine.proofs.StateSteps.{state_ready}
-use Rattle.reading.proofs.Invariant.{Tested, After, Keeps, keeps_ok, keeps_err, keeps_stop, KeepsFrom, eval_keeps, checkpoint_fit, pushed_fit, toggled, toggled_back}
+use Rattle.reading.proofs.Invariant.{Tested, After, Keeps, keeps_ok, keeps_err, keeps_stop, KeepsFrom, eval_keeps, checkpoint_fit}
+use Rattle.reading.proofs.Invariant.{pushed_fit, toggled, toggled_back}
 use Rattle.engine.proofs.RuleLaws.{rule_is}
-use Rattle.reading.proofs.Accepted.{Accepted, accepted, tree_literals, body_literals, tree_still, tree_steady, body_steady, body_closed, rule_still, rule_still_is}
+use Rattle.reading.proofs.Accepted.{Accepted, accepted, tree_literals, body_literals, tree_still, tree_steady, body_steady, body_closed}
+use Rattle.reading.proofs.Accepted.{rule_still, rule_still_is}
 
 -- What is known of a value is known of the variant that it is.
 pub told : (a b : List ℕ) (s : Code.ParserState) {r y : Coded.Ending} {x : Ending ParserState} → view_end a b s r ≡ x → r ≡ y → view_end a b s y ≡ x
@@ -70,7 +72,8 @@ no_answer c t = go (is_set t.limit_reached) (c && Pest.exceeded t.current_call_l
     no : CallLimitTracker → Entered
     no u = record { answer = false; tracker = u }
 
-    go : (x y : Bool) → (if x then no t else if y then Pest.reached LimitKind.Call t else if x then no t else if y then Pest.reached LimitKind.Call t else Pest.reached LimitKind.Stack t).answer ≡ false
+    go : (x y : Bool) → (if x then no t else if y then Pest.reached LimitKind.Call t else if x then no t else if y
+        then Pest.reached LimitKind.Call t else Pest.reached LimitKind.Stack t).answer ≡ false
     go true y = refl
     go false true = refl
     go false false = refl
@@ -103,7 +106,8 @@ abbrev Tracks : ParserState → Entry → Type 0
 Tracks m (opened n) = n ≡ Pest.set_call_tracker n.call_tracker m
 Tracks m (refused n) = Unit {0}
 
-tracks : (b : Bool) (t : CallLimitTracker) (m : ParserState) → Tracks m (if b then opened (Pest.set_call_tracker t m) else refused (Pest.set_call_tracker t m))
+tracks : (b : Bool) (t : CallLimitTracker) (m : ParserState)
+    → Tracks m (if b then opened (Pest.set_call_tracker t m) else refused (Pest.set_call_tracker t m))
 tracks true t m = refl
 tracks false t m = tt
 
@@ -119,7 +123,8 @@ Left g p l a marks held (Stop c) = Unit {0}
 abbrev pub LeftFrom : Setting → ParserState → Ending ParserState → Type 0
 LeftFrom g m x = Left g m.position m.lookahead m.atomicity (length m.stack.lengths) (length m.queue) x
 
-left_of : {g : Setting} {b : Bool} {p : ℕ} {l : Lookahead} {a : Atomicity} {marks held : ℕ} (x : Ending ParserState) → Keeps g b p l a marks held x → Left g p l a marks held x
+left_of : {g : Setting} {b : Bool} {p : ℕ} {l : Lookahead} {a : Atomicity} {marks held : ℕ} (x : Ending ParserState)
+    → Keeps g b p l a marks held x → Left g p l a marks held x
 left_of x (keeps_ok n y i) = y
 left_of x (keeps_err n y) = y
 left_of x (keeps_stop c) = tt
@@ -129,13 +134,15 @@ Ahead p (Ok n) = p < n.position
 Ahead p (Err n) = Unit {0}
 Ahead p (Stop c) = Unit {0}
 
-ahead_of : {g : Setting} {b : Bool} {p : ℕ} {l : Lookahead} {a : Atomicity} {marks held : ℕ} (x : Ending ParserState) → Keeps g b p l a marks held x → b ≡ false → Ahead p x
+ahead_of : {g : Setting} {b : Bool} {p : ℕ} {l : Lookahead} {a : Atomicity} {marks held : ℕ} (x : Ending ParserState)
+    → Keeps g b p l a marks held x → b ≡ false → Ahead p x
 ahead_of x (keeps_ok n y i) e = i e
 ahead_of x (keeps_err n y) e = tt
 ahead_of x (keeps_stop c) e = tt
 
 -- What the tests of a run give the laws of the evaluation.
-pub tested_of : (ns : List ℤ) (literals text : List ℕ) (capacity : ℕ) → Accepted ns literals → Tested (setting_of ns literals text capacity) (rule_still ns)
+pub tested_of : (ns : List ℤ) (literals text : List ℕ) (capacity : ℕ) → Accepted ns literals
+    → Tested (setting_of ns literals text capacity) (rule_still ns)
 tested_of ns literals text capacity w = record {
   literals = body_literals ns literals w;
   closed = body_closed ns literals w;
@@ -143,7 +150,8 @@ tested_of ns literals text capacity w = record {
 }
 
 -- A checkpoint leaves the queue.
-pub marked_queue : (tokens scratch b : List ℕ) (t u : Code.ParserState) → view tokens b u ≡ Pest.checkpoint (view tokens scratch t) → t.queue.0 ≤ length (queue_of tokens u.queue.0)
+pub marked_queue : (tokens scratch b : List ℕ) (t u : Code.ParserState) → view tokens b u ≡ Pest.checkpoint (view tokens scratch t)
+    → t.queue.0 ≤ length (queue_of tokens u.queue.0)
 marked_queue tokens scratch b t u e = omega (arith, ap (λ (x : ParserState). length x.queue) e, queue_length tokens t.queue.0)
 
 -- How many tokens the queue holds, as the code read it.
@@ -167,7 +175,8 @@ module _ (ns : List ℤ) (literals text : List ℕ) (capacity : ℕ) where
   tests r = accepted ns literals r.fitting r.moving
 
   -- Another state, with areas as long.
-  pub ready_on : {tokens scratch tokens' scratch' : List ℕ} {d d' : ℕ} {m n : ParserState} → R tokens scratch d m → length tokens' ≡ length tokens → length scratch' ≡ length scratch → Fit g n
+  pub ready_on : {tokens scratch tokens' scratch' : List ℕ} {d d' : ℕ} {m n : ParserState} → R tokens scratch d m
+      → length tokens' ≡ length tokens → length scratch' ≡ length scratch → Fit g n
       → length n.stack.lengths + d' ≤ 1024 → R tokens' scratch' d' n
   ready_on r t s f k = record {
     fitting = r.fitting;
@@ -182,7 +191,8 @@ module _ (ns : List ℤ) (literals text : List ℕ) (capacity : ℕ) where
 
   -- ── A tree that enters: k is what it does one call deeper ──
   module _ (T : Exp) (c : Bool) (k : (Exp → ParserState → Ending ParserState) → ParserState → Ending ParserState)
-      (enters : (room : Bool) (f : Exp → ParserState → Ending ParserState) (m : ParserState) → Pest.level g true room f T m ≡ Pest.check_limit room c m (k f)) where
+      (enters : (room : Bool) (f : Exp → ParserState → Ending ParserState) (m : ParserState)
+          → Pest.level g true room f T m ≡ Pest.check_limit room c m (k f)) where
     pub entry_refused : (d : ℕ) (m n : ParserState) → Refused c d m n → Err n ≡ E d T m
     unfolding evaluated
     entry_refused zero m n o = ap (λ (x : Entry). go_on x (k (Pest.no_deeper g true))) o.refuses
@@ -202,7 +212,8 @@ module _ (ns : List ℤ) (literals text : List ℕ) (capacity : ℕ) where
         ∙ sym (enters true (Pest.eval g true d) m ∙ check_limit_is true c m (k (Pest.eval g true d)))
 
   -- ── Readiness, along an entry and a checkpoint ──
-  pub ready_open : (tokens scratch : List ℕ) (c : Bool) (d : ℕ) (m n : ParserState) → R tokens scratch d m → opened n ≡ entering (ltb 0 d) c m → R tokens scratch d n
+  pub ready_open : (tokens scratch : List ℕ) (c : Bool) (d : ℕ) (m n : ParserState) → R tokens scratch d m
+      → opened n ≡ entering (ltb 0 d) c m → R tokens scratch d n
   ready_open tokens scratch c d m n r e =
       let s : n ≡ Pest.set_call_tracker n.call_tracker m = entering_same (ltb 0 d) c m n e in
       ready_on r refl refl (subst (Fit g) (sym s) r.fit) (omega (arith, ap (λ (x : ParserState). length x.stack.lengths) s, r.deep))
@@ -212,32 +223,40 @@ module _ (ns : List ℤ) (literals text : List ℕ) (capacity : ℕ) where
 
   pub ready_marked : {tokens scratch : List ℕ} {d : ℕ} {m : ParserState} → R tokens scratch d m
       → {j : ℕ} → j + 1 ≡ d → {b : List ℕ} {u : ParserState} → u ≡ Pest.checkpoint m → length b ≡ length scratch → R tokens b j u
-  ready_marked {m = m} r h e s = ready_on r refl s (subst (Fit g) (sym e) (checkpoint_fit g m r.fit)) (omega (arith, h, ap (λ (x : ParserState). length x.stack.lengths) e, r.deep))
+  ready_marked {m = m} r h e s = ready_on r refl s (subst (Fit g) (sym e) (checkpoint_fit g m r.fit))
+      (omega (arith, h, ap (λ (x : ParserState). length x.stack.lengths) e, r.deep))
 
   -- What the code's functions ask of a state that is ready.
   pub state_of : {tokens scratch : List ℕ} {d : ℕ} (s : Code.ParserState) → R tokens scratch d (view tokens scratch s) → StateReady scratch s
   state_of {tokens} {scratch} s r = state_ready tokens scratch s r.room r.fit.sound (omega (arith, r.deep)) r.fit.positives r.fit.negatives
 
-  pub mark_of : {tokens scratch : List ℕ} {d : ℕ} (s : Code.ParserState) → R tokens scratch d (view tokens scratch s) → {c : Bool} {j : ℕ} {m n : ParserState} → Opened c d j m n
+  pub mark_of : {tokens scratch : List ℕ} {d : ℕ} (s : Code.ParserState) → R tokens scratch d (view tokens scratch s)
+      → {c : Bool} {j : ℕ} {m n : ParserState} → Opened c d j m n
       → StateReady scratch s × (s.stack.checkpoints < 1024)
   mark_of {tokens} {scratch} {d} s r o = (state_of s r, omega (arith, o.next, r.deep, pairs_length Areas.checkpoint scratch 2816 s.stack.checkpoints))
 
   -- ── After the body ──
-  pub kept_by : Accepted ns literals → (d l : ℕ) (m : ParserState) (x : Ending ParserState) → Fit g m → x ≡ E d (tree_at ns literals l) m → LeftFrom g m x
+  pub kept_by : Accepted ns literals → (d l : ℕ) (m : ParserState) (x : Ending ParserState) → Fit g m → x ≡ E d (tree_at ns literals l) m
+      → LeftFrom g m x
   unfolding evaluated
   kept_by w d l m x f e =
-      left_of x (subst (KeepsFrom g (still (rule_still ns) (tree_at ns literals l)) m) (sym e) (eval_keeps g (rule_still ns) (tested_of ns literals text capacity w) d (tree_at ns literals l) (tree_literals ns literals w l) (tree_steady ns literals w (rule_still ns) (rule_still_is ns) l) m f))
+      left_of x (subst (KeepsFrom g (still (rule_still ns) (tree_at ns literals l)) m) (sym e)
+          (eval_keeps g (rule_still ns) (tested_of ns literals text capacity w) d (tree_at ns literals l) (tree_literals ns literals w l)
+          (tree_steady ns literals w (rule_still ns) (rule_still_is ns) l) m f))
 
   pub kept : (tokens scratch : List ℕ) (d l : ℕ) (m : ParserState) (x : Ending ParserState) → R tokens scratch d m → x ≡ E d (tree_at ns literals l) m
       → LeftFrom g m x
   kept tokens scratch d l m x r e = kept_by (tests r) d l m x r.fit e
 
   -- A line that may not stand still moves on Ok.
-  pub moves_on : (tokens scratch : List ℕ) (d l : ℕ) (m v : ParserState) → R tokens scratch d m → Line ns l → nullable ns l ≡ false → Ok v ≡ E d (tree_at ns literals l) m → m.position < v.position
+  pub moves_on : (tokens scratch : List ℕ) (d l : ℕ) (m v : ParserState) → R tokens scratch d m → Line ns l → nullable ns l ≡ false
+      → Ok v ≡ E d (tree_at ns literals l) m → m.position < v.position
   unfolding evaluated
   moves_on tokens scratch d l m v r i s e =
       ahead_of {g = g} {b = still (rule_still ns) (tree_at ns literals l)} (Ok v)
-      (subst (KeepsFrom g (still (rule_still ns) (tree_at ns literals l)) m) (sym e) (eval_keeps g (rule_still ns) (tested_of ns literals text capacity (tests r)) d (tree_at ns literals l) (tree_literals ns literals (tests r) l) (tree_steady ns literals (tests r) (rule_still ns) (rule_still_is ns) l) m r.fit))
+      (subst (KeepsFrom g (still (rule_still ns) (tree_at ns literals l)) m) (sym e)
+          (eval_keeps g (rule_still ns) (tested_of ns literals text capacity (tests r)) d (tree_at ns literals l)
+          (tree_literals ns literals (tests r) l) (tree_steady ns literals (tests r) (rule_still ns) (rule_still_is ns) l) m r.fit))
       (tree_still ns literals (tests r) (rule_still ns) (rule_still_is ns) l (i.low, i.high) ∙ s)
 
   -- From the state m, at which the body began.
@@ -248,12 +267,14 @@ module _ (ns : List ℤ) (literals text : List ℕ) (capacity : ℕ) where
     grown_after : (s : Code.ParserState) → LeftFrom g m (Ok (view tokens scratch s)) → length m.queue ≤ s.queue.0
     grown_after s w = omega (arith, w.grown, queue_length tokens s.queue.0)
 
-    pub end_ready : (n : ℕ) (s : Code.ParserState) (r : Coded.Ending) → LeftFrom g m (view_end tokens scratch s r) → n ≤ length m.queue → EndReady scratch n s r
+    pub end_ready : (n : ℕ) (s : Code.ParserState) (r : Coded.Ending) → LeftFrom g m (view_end tokens scratch s r) → n ≤ length m.queue
+        → EndReady scratch n s r
     end_ready n s Coded-of.Ok w h = (ready_after s w, omega (arith, grown_after s w))
     end_ready n s Coded-of.Err w h = (ready_after s w, omega (arith, grown_after s w))
     end_ready n s (Coded-of.Stop c) w h = tt
 
-    pub push_ready : (start : BytePosition) (s : Code.ParserState) (r : Coded.Ending) → LeftFrom g m (view_end tokens scratch s r) → length text ≤ 65535 → start.0 ≤ length text → PushEndReady scratch start s r
+    pub push_ready : (start : BytePosition) (s : Code.ParserState) (r : Coded.Ending) → LeftFrom g m (view_end tokens scratch s r)
+        → length text ≤ 65535 → start.0 ≤ length text → PushEndReady scratch start s r
     push_ready start s Coded-of.Ok w h i = record { state = ready_after s w; from = omega arith; to = omega (arith, w.fit.edge.inside) }
     push_ready start s Coded-of.Err w h i = tt
     push_ready start s (Coded-of.Stop c) w h i = tt
@@ -261,11 +282,14 @@ module _ (ns : List ℤ) (literals text : List ℕ) (capacity : ℕ) where
     tracking_after : (s : Code.ParserState) → LeftFrom g m (Ok (view tokens scratch s)) → Tracking scratch s
     tracking_after s w =
         let r : StateReady scratch s = ready_after s w in
-        record { lent = record { room = room; few = record { few_positives = r.positives; few_negatives = r.negatives } }; tall = r.stack.tall; owing = r.stack.owing }
+        record { lent = record { room = room; few = record { few_positives = r.positives; few_negatives = r.negatives } };
+            tall = r.stack.tall; owing = r.stack.owing }
 
-    pub rule_ready : (i : ℕ) (s : Code.ParserState) (r : Coded.Ending) → LeftFrom g m (view_end tokens scratch s r) → capacity * 5 ≤ length tokens → capacity ≤ 65535 → length text ≤ 65535 → i ≤ capacity
+    pub rule_ready : (i : ℕ) (s : Code.ParserState) (r : Coded.Ending) → LeftFrom g m (view_end tokens scratch s r)
+        → capacity * 5 ≤ length tokens → capacity ≤ 65535 → length text ≤ 65535 → i ≤ capacity
         → RuleEndReady tokens scratch capacity i s r
-    rule_ready i s Coded-of.Ok w area small short h = (record { room = area; most = small; near = omega (arith, w.fit.edge.inside) }, tracking_after s w, h)
+    rule_ready i s Coded-of.Ok w area small short h =
+        (record { room = area; most = small; near = omega (arith, w.fit.edge.inside) }, tracking_after s w, h)
     rule_ready i s Coded-of.Err w area small short h = tracking_after s w
     rule_ready i s (Coded-of.Stop c) w area small short h = tt
 
@@ -299,7 +323,8 @@ module _ (ns : List ℤ) (literals text : List ℕ) (capacity : ℕ) where
       rule_refused line r o = entry_refused (Grammar.rule line r B) true (λ f k. Pest.rule g true line r (f B) k) (λ room f k. refl) d m n o
 
   -- Toggled back or set: the body left the atomicity that it began with.
-  atomic_same : (a b : Atomicity) (j : ParserState) (x : Ending ParserState) → LeftFrom g (Pest.set_atomicity a j) x → atomic_back b x ≡ Pest.atomic_end (not (Pest.same_atomicity b a)) b x
+  atomic_same : (a b : Atomicity) (j : ParserState) (x : Ending ParserState) → LeftFrom g (Pest.set_atomicity a j) x
+      → atomic_back b x ≡ Pest.atomic_end (not (Pest.same_atomicity b a)) b x
   atomic_same a b j (Ok k) w = ap Ok (sym (toggled_back g b a k w.atom))
   atomic_same a b j (Err k) w = ap Err (sym (toggled_back g b a k w.atom))
   atomic_same a b j (Stop c) w = refl
@@ -317,12 +342,14 @@ module _ (ns : List ℤ) (literals text : List ℕ) (capacity : ℕ) where
 
     module _ {d j : ℕ} {m n : ParserState} where
       pub sequence_step : Opened true d j m n → {u : ParserState} → u ≡ Pest.checkpoint n → {x : Ending ParserState} → x ≡ E j C u
-          → {i : ℕ} → length n.queue ≡ i → {p : ℕ} → n.position ≡ p → {y : Ending ParserState} → y ≡ Pest.sequence_end i p x → y ≡ E d (Grammar.sequence C) m
+          → {i : ℕ} → length n.queue ≡ i → {p : ℕ} → n.position ≡ p → {y : Ending ParserState} → y ≡ Pest.sequence_end i p x
+              → y ≡ E d (Grammar.sequence C) m
       sequence_step o v {x} w q h z =
           z ∙ ap₂ (λ (j k : ℕ). Pest.sequence_end j k x) (sym q) (sym h) ∙ ap (Pest.sequence_end (length n.queue) n.position) (w ∙ ap (E j C) v)
           ∙ entry_open (Grammar.sequence C) true (λ f k. Pest.sequence (f C) k) (λ room f k. refl) d j m n o
 
-      pub optional_step : Opened true d j m n → {x : Ending ParserState} → x ≡ E j C n → {y : Ending ParserState} → y ≡ Pest.optional x → y ≡ E d (Grammar.optional C) m
+      pub optional_step : Opened true d j m n → {x : Ending ParserState} → x ≡ E j C n → {y : Ending ParserState} → y ≡ Pest.optional x
+          → y ≡ E d (Grammar.optional C) m
       optional_step o w z = z ∙ ap Pest.optional w ∙ entry_open (Grammar.optional C) true (λ f k. Pest.optional (f C k)) (λ room f k. refl) d j m n o
 
       pub restore_step : Opened false d j m n → {u : ParserState} → u ≡ Pest.checkpoint n → {x : Ending ParserState} → x ≡ E j C u
@@ -347,10 +374,12 @@ module _ (ns : List ℤ) (literals text : List ℕ) (capacity : ℕ) where
           ∙ entry_open (Grammar.stack_push line C) true (λ f k. Pest.stack_push text true line (f C) k) (λ room f k. refl) d j m n o
 
       pub atomic_step : (a : Atomicity) → Opened true d j m n → {tokens scratch : List ℕ} → R tokens scratch j (Pest.set_atomicity a n)
-          → {x : Ending ParserState} → x ≡ E j C (Pest.set_atomicity a n) → {b : Atomicity} → n.atomicity ≡ b → {y : Ending ParserState} → y ≡ atomic_back b x → y ≡ E d (Grammar.atomic a C) m
+          → {x : Ending ParserState} → x ≡ E j C (Pest.set_atomicity a n) → {b : Atomicity} → n.atomicity ≡ b → {y : Ending ParserState}
+              → y ≡ atomic_back b x → y ≡ E d (Grammar.atomic a C) m
       atomic_step a o {tokens} {scratch} r {x} w h z =
           let t : Bool = not (Pest.same_atomicity n.atomicity a) in
-          z ∙ ap (λ (j : Atomicity). atomic_back j x) (sym h) ∙ atomic_same a n.atomicity n x (kept tokens scratch j body (Pest.set_atomicity a n) x r w)
+          z ∙ ap (λ (j : Atomicity). atomic_back j x) (sym h)
+              ∙ atomic_same a n.atomicity n x (kept tokens scratch j body (Pest.set_atomicity a n) x r w)
           ∙ ap (Pest.atomic_end t n.atomicity) (w ∙ ap (E j C) (sym (toggled g n.atomicity a n refl)))
           ∙ entry_open (Grammar.atomic a C) true (λ f k. Pest.atomic a (f C) k) (λ room f k. refl) d j m n o
 
@@ -390,26 +419,30 @@ module _ (ns : List ℤ) (literals text : List ℕ) (capacity : ℕ) where
 
       room : (c : Bool) → leb capacity (length n.queue) ≡ c → Begins n (stop_if c (Cause-of.TokensFull line) (λ _. Ok s))
       room true e = tt
-      room false e = (pushed_fit g n n.queue (Pest.Start 0 n.position) f refl e, refl, omega (arith, length-append n.queue (Pest.Start 0 n.position ∷ [])))
+      room false e = (pushed_fit g n n.queue (Pest.Start 0 n.position) f refl e, refl,
+          omega (arith, length-append n.queue (Pest.Start 0 n.position ∷ [])))
 
       go : (c : Bool) → Begins n (elim c [ false ↦ Ok n | true ↦ stop_if (leb capacity (length n.queue)) (Cause-of.TokensFull line) (λ _. Ok s) ])
       go false = (f, refl, omega arith)
       go true = room (leb capacity (length n.queue)) refl
 
-  pub begun : {tokens scratch : List ℕ} {d : ℕ} {n : ParserState} {j : ℕ} → j + 1 ≡ d → R tokens scratch d n → {b : List ℕ} (line : ℕ) {u : ParserState} → Ok u ≡ starting g line n
+  pub begun : {tokens scratch : List ℕ} {d : ℕ} {n : ParserState} {j : ℕ} → j + 1 ≡ d → R tokens scratch d n
+      → {b : List ℕ} (line : ℕ) {u : ParserState} → Ok u ≡ starting g line n
       → length b ≡ length tokens → R b scratch j u
   begun {n = n} h r {b} line {u} e s =
       let w : Begins n (Ok u) = subst (Begins n) (sym e) (begins line n r.fit) in
       ready_on r s refl w.0 (omega (arith, h, w.1, r.deep))
 
-  pub recording_of : {tokens scratch : List ℕ} {d : ℕ} (s : Code.ParserState) → R tokens scratch d (view tokens scratch s) → Recording tokens capacity s
+  pub recording_of : {tokens scratch : List ℕ} {d : ℕ} (s : Code.ParserState) → R tokens scratch d (view tokens scratch s)
+      → Recording tokens capacity s
   recording_of s r = record { room = r.area; most = r.small; near = omega (arith, r.fit.edge.inside, r.short) }
 
   pub few_of : {tokens scratch : List ℕ} {d : ℕ} (s : Code.ParserState) → R tokens scratch d (view tokens scratch s) → Few s.attempts
   few_of {tokens} {scratch} s r = let w : StateReady scratch s = state_of s r in record { few_positives = w.positives; few_negatives = w.negatives }
 
   -- ── What the leaf after the body asks, from the body's equation ──
-  module _ (body : ℕ) {d : ℕ} {tokens₀ scratch₀ : List ℕ} {m : ParserState} (r₀ : R tokens₀ scratch₀ d m) (tokens scratch : List ℕ) (size : length scratch ≡ length scratch₀)
+  module _ (body : ℕ) {d : ℕ} {tokens₀ scratch₀ : List ℕ} {m : ParserState} (r₀ : R tokens₀ scratch₀ d m) (tokens scratch : List ℕ)
+      (size : length scratch ≡ length scratch₀)
       (s : Code.ParserState) (r : Coded.Ending) (e : view_end tokens scratch s r ≡ E d (tree_at ns literals body) m) where
     left : LeftFrom g m (view_end tokens scratch s r)
     left = kept tokens₀ scratch₀ d body m (view_end tokens scratch s r) r₀ e
@@ -430,10 +463,12 @@ module _ (ns : List ℤ) (literals text : List ℕ) (capacity : ℕ) where
     body_rule t {i} h = rule_ready m marks_few tokens scratch room_same i s r left (rw t r₀.area) r₀.small r₀.short h
 
   -- Lookahead and atomicity are not looked at.
-  pub ready_looking : {tokens scratch : List ℕ} {d : ℕ} {m : ParserState} → R tokens scratch d m → (l : Lookahead) → R tokens scratch d (Pest.set_lookahead l m)
+  pub ready_looking : {tokens scratch : List ℕ} {d : ℕ} {m : ParserState} → R tokens scratch d m → (l : Lookahead)
+      → R tokens scratch d (Pest.set_lookahead l m)
   ready_looking {m = m} r l = ready_on {m = m} {n = Pest.set_lookahead l m} r refl refl r.fit r.deep
 
-  pub ready_atom : {tokens scratch : List ℕ} {d : ℕ} {m : ParserState} → R tokens scratch d m → (a : Atomicity) → R tokens scratch d (Pest.set_atomicity a m)
+  pub ready_atom : {tokens scratch : List ℕ} {d : ℕ} {m : ParserState} → R tokens scratch d m → (a : Atomicity)
+      → R tokens scratch d (Pest.set_atomicity a m)
   ready_atom {m = m} r a = ready_on {m = m} {n = Pest.set_atomicity a m} r refl refl r.fit r.deep
 
   -- A rule's Start has a place in the queue.

@@ -28,7 +28,8 @@ abbrev pub token_by : Token → QueueableToken
 token_by t = if eqb t.kind 1 then Start t.partner t.position else End t.partner t.rule t.tag t.position
 
 pub five_ext : {k k' i i' p p' r r' t t' : ℕ} → k ≡ k' → i ≡ i' → p ≡ p' → r ≡ r' → t ≡ t'
-    → ◌≡◌ {A = Token} (record { kind = k; partner = i; position = p; rule = r; tag = t }) (record { kind = k'; partner = i'; position = p'; rule = r'; tag = t' })
+    → ◌≡◌ {A = Token} (record { kind = k; partner = i; position = p; rule = r; tag = t })
+        (record { kind = k'; partner = i'; position = p'; rule = r'; tag = t' })
 five_ext a b c d e = λ x. record { kind = a x; partner = b x; position = c x; rule = d x; tag = e x }
 
 -- What a token stands for gives its numbers back.
@@ -43,14 +44,16 @@ queue_length a zero = refl
 queue_length a (suc n) = length-append (queue_of a n) (token_at a n ∷ []) ∙ ap (λ (k : ℕ). k + 1) (queue_length a n) ∙ add-one n
 
 five_same : (a b : List ℕ) (j : ℕ) → ((k : ℕ) → j * 5 ≤ k → k < j * 5 + 5 → get_or a k 0 ≡ get_or b k 0) → five_at a j ≡ five_at b j
-five_same a b j h = five_ext (h _ (omega arith) (omega arith)) (h _ (omega arith) (omega arith)) (h _ (omega arith) (omega arith)) (h _ (omega arith) (omega arith)) (h _ (omega arith) (omega arith))
+five_same a b j h = five_ext (h _ (omega arith) (omega arith)) (h _ (omega arith) (omega arith)) (h _ (omega arith) (omega arith))
+    (h _ (omega arith) (omega arith)) (h _ (omega arith) (omega arith))
 
 -- What stands below the first n tokens' end decides them.
 pub queue_same : (n : ℕ) (a b : List ℕ) → ((k : ℕ) → k < n * 5 → get_or a k 0 ≡ get_or b k 0) → queue_of a n ≡ queue_of b n
 unfolding queue_of
 queue_same zero a b h = refl
 queue_same (suc n) a b h =
-    ap₂ (λ (q : List QueueableToken) (t : Token). q ++ (token_by t ∷ [])) (queue_same n a b (λ k l. h k (omega arith))) (five_same a b n (λ k l m. h k (omega arith)))
+    ap₂ (λ (q : List QueueableToken) (t : Token). q ++ (token_by t ∷ [])) (queue_same n a b (λ k l. h k (omega arith)))
+        (five_same a b n (λ k l m. h k (omega arith)))
 
 -- `truncate`
 pub queue_take : (a : List ℕ) (n k : ℕ) → k ≤ n → take k (queue_of a n) ≡ queue_of a k
@@ -148,7 +151,8 @@ module _ (a : List ℕ) (i : ℕ) (t : Token) (h : i * 5 + 5 ≤ length a) where
       five_ext (ap (λ (k : ℕ). get_or (put_token a i five) k 0) z ∙ put_number 0 (omega arith))
       (put_number 1 (omega arith)) (put_number 2 (omega arith)) (put_number 3 (omega arith)) (put_number 4 (omega arith))
 
-pub pushed : (a : List ℕ) (n : ℕ) (t : QueueableToken) (b : List ℕ) → n * 5 + 5 ≤ length a → b ≡ put_token a n (numbers (token_of t ∷ [])) → Pushed a n t b
+pub pushed : (a : List ℕ) (n : ℕ) (t : QueueableToken) (b : List ℕ) → n * 5 + 5 ≤ length a → b ≡ put_token a n (numbers (token_of t ∷ []))
+    → Pushed a n t b
 unfolding queue_of
 pushed a n t b h e =
     let five : five_at b n ≡ token_of t = ap (λ (x : List ℕ). five_at x n) e ∙ put_here a n (token_of t) h in
@@ -196,7 +200,8 @@ module _ (a : List ℕ) (i v : ℕ) (h : i * 5 + 5 ≤ length a) where
     where
       same : (n : ℕ) → Dec (i < n) → queue_of a n ≡ set (queue_of a n) i (with_end v (get_or (queue_of a n) i (Start 0 0)))
       same n (yes l) =
-          let g : get_or (queue_of a n) i (Start 0 0) ≡ End (get_or a (i * 5 + 1) 0) (get_or a (i * 5 + 3) 0) (get_or a (i * 5 + 4) 0) (get_or a (i * 5 + 2) 0) = queue_getD a n i (Start 0 0) l ∙ end_by (five_at a i) f in
+          let g : get_or (queue_of a n) i (Start 0 0) ≡ End (get_or a (i * 5 + 1) 0) (get_or a (i * 5 + 3) 0) (get_or a (i * 5 + 4) 0)
+                  (get_or a (i * 5 + 2) 0) = queue_getD a n i (Start 0 0) l ∙ end_by (five_at a i) f in
           sym (set-get_or (queue_of a n) i (Start 0 0)) ∙ ap (set (queue_of a n) i) (g ∙ sym (ap (with_end v) g))
       same n (no g) = sym (set_out (queue_of a n) i _ (omega (arith, queue_length a n)))
 
@@ -219,7 +224,8 @@ module _ (a : List ℕ) (m u : ℕ) (h : m * 5 + 5 ≤ length a) where
   unfolding queue_of
   tag_start e =
       let s : token_at a m ≡ Start (get_or a (m * 5 + 1) 0) (get_or a (m * 5 + 2) 0) = start_by (five_at a m) e in
-      let q : queue_of a m ++ (token_at a m ∷ []) ≡ queue_of a m ++ (Start (get_or a (m * 5 + 1) 0) (get_or a (m * 5 + 2) 0) ∷ []) = ap (λ (t : QueueableToken). queue_of a m ++ (t ∷ [])) s in
+      let q : queue_of a m ++ (token_at a m ∷ []) ≡ queue_of a m ++ (Start (get_or a (m * 5 + 1) 0) (get_or a (m * 5 + 2) 0) ∷ []) =
+              ap (λ (t : QueueableToken). queue_of a m ++ (t ∷ [])) s in
       q ∙ sym (tag_at_start u (queue_of a m) _ _) ∙ sym (ap (tag_last u) q)
 
   tag_outside : Outside (m * 5) (m * 5 + 5) a (set a (m * 5 + 4) u)
@@ -237,7 +243,8 @@ module _ (a : List ℕ) (n u : ℕ) (f : n ≡ 0 → ⊥) (h : n * 5 ≤ length 
   pub tagged_start : get_or a ((n - 1) * 5) 0 ≡ 1 → Tagged a n u a
   tagged_start e =
       let j : n ≡ suc (n - 1) = omega (arith, f) in
-      record { queue = ap (queue_of a) j ∙ tag_start a (n - 1) u (omega arith) e ∙ sym (ap (λ (k : ℕ). tag_last u (queue_of a k)) j); others = outside_refl a }
+      record { queue = ap (queue_of a) j ∙ tag_start a (n - 1) u (omega arith) e ∙ sym (ap (λ (k : ℕ). tag_last u (queue_of a k)) j);
+          others = outside_refl a }
 
   pub tagged_end : (get_or a ((n - 1) * 5) 0 ≡ 1 → ⊥) → Tagged a n u (set a ((n - 1) * 5 + 4) u)
   tagged_end g =
@@ -275,7 +282,8 @@ queue_numbers a (suc n) h w =
     ∙ sym (ap numbers (tokens_append (queue_of a n) (token_at a n ∷ [])) ∙ numbers_append (tokens_of (queue_of a n)) (token_of (token_at a n) ∷ []))
 
 -- The area zeroed behind n tokens is those tokens, then zeros.
-pub tokens_area : (a : List ℕ) (n : ℕ) → n * 5 ≤ length a → Written a n → filled (length a) (take (n * 5) a) ≡ filled (length a) (numbers (tokens_of (queue_of a n)))
+pub tokens_area : (a : List ℕ) (n : ℕ) → n * 5 ≤ length a → Written a n
+    → filled (length a) (take (n * 5) a) ≡ filled (length a) (numbers (tokens_of (queue_of a n)))
 tokens_area a n h w = ap (filled (length a)) (queue_numbers a n h w)
 
 -- ── tokens settled to the numbers of what they stand for ──
@@ -295,7 +303,8 @@ settled_more i n a b c h p s =
       others = outside_trans p.others (outside_wider (omega arith) (omega arith) s.others);
     }
 
-pub settled_area : (n : ℕ) (a b c : List ℕ) → n * 5 ≤ length a → SettledTo n n a b → c ≡ filled (length b) (take (n * 5) b) → c ≡ filled (length a) (numbers (tokens_of (queue_of a n)))
+pub settled_area : (n : ℕ) (a b c : List ℕ) → n * 5 ≤ length a → SettledTo n n a b → c ≡ filled (length b) (take (n * 5) b)
+    → c ≡ filled (length a) (numbers (tokens_of (queue_of a n)))
 settled_area n a b c h p e =
     e ∙ tokens_area b n (omega (arith, p.others.size)) p.written
     ∙ ap₂ (λ (k : ℕ) (q : List QueueableToken). filled k (numbers (tokens_of q))) p.others.size p.queue

@@ -41,7 +41,8 @@ forked ns literals w = record {
     lower l lo hi (inr q) = let f : Fits ns literals l = facts ns literals w l lo hi in (((f.a₇ q).low, (f.a₇ q).high), ((f.b₇ q).low, (f.b₇ q).high))
 
 -- The outer loop: from `at` and the state m it comes to what the line it began with comes to.
-pub record Walking (ns : List ℤ) (literals text : List ℕ) (capacity d line : ℕ) (tokens₀ scratch₀ : List ℕ) (m₀ : ParserState) (tokens scratch : List ℕ) (at : ℕ) (m : ParserState) : Type 0 where
+pub record Walking (ns : List ℤ) (literals text : List ℕ) (capacity d line : ℕ) (tokens₀ scratch₀ : List ℕ) (m₀ : ParserState)
+    (tokens scratch : List ℕ) (at : ℕ) (m : ParserState) : Type 0 where
   pub ready : Ready ns literals text tokens scratch capacity d m
   pub here : Line ns at
   pub upto : at ≤ line
@@ -89,7 +90,8 @@ abbrev FineOn : Setting → (d : ℕ) → Onward → Type 0
 FineOn g d (go m) = Able g d m
 FineOn g d (stay x) = Fine g d x
 
-fine_or : (g : Setting) (d : ℕ) (b : Bool) (n : ParserState) (x : Ending ParserState) → Able g d n → Fine g d x → FineOn g d (if b then go n else stay x)
+fine_or : (g : Setting) (d : ℕ) (b : Bool) (n : ParserState) (x : Ending ParserState) → Able g d n → Fine g d x
+    → FineOn g d (if b then go n else stay x)
 fine_or g d true n x h f = h
 fine_or g d false n x h f = f
 
@@ -105,13 +107,15 @@ fine_left g d m (Err n) h w = (w.fit, omega (arith, w.level))
 fine_left g d m (Stop c) h w = tt
 
 -- The loop up a spine: x₀ is the ending of the line `count` steps below the top, and x that of the line i steps below it, from any state.
-pub record Climbing (ns : List ℤ) (literals text : List ℕ) (capacity d top count : ℕ) (tokens₀ scratch₀ : List ℕ) (x₀ : Ending ParserState) (tokens scratch : List ℕ) (x : Ending ParserState) (i : ℕ) : Type 0 where
+pub record Climbing (ns : List ℤ) (literals text : List ℕ) (capacity d top count : ℕ) (tokens₀ scratch₀ : List ℕ) (x₀ : Ending ParserState)
+    (tokens scratch : List ℕ) (x : Ending ParserState) (i : ℕ) : Type 0 where
   pub tokens_same : length tokens ≡ length tokens₀
   pub scratch_same : length scratch ≡ length scratch₀
   pub low : 1 ≤ count → 1 ≤ i
   pub upto : i ≤ count
   pub fine : Fine (setting_of ns literals text capacity) d x
-  pub runs : (m : ParserState) → x₀ ≡ evaluated ns literals text capacity d (tree_at ns literals (spine_line ns top count)) m → x ≡ evaluated ns literals text capacity d (tree_at ns literals (spine_line ns top i)) m
+  pub runs : (m : ParserState) → x₀ ≡ evaluated ns literals text capacity d (tree_at ns literals (spine_line ns top count)) m
+      → x ≡ evaluated ns literals text capacity d (tree_at ns literals (spine_line ns top i)) m
 
 module _ (ns : List ℤ) (literals text : List ℕ) (capacity d : ℕ) where
   abbrev g : Setting
@@ -120,10 +124,12 @@ module _ (ns : List ℤ) (literals text : List ℕ) (capacity d : ℕ) where
   abbrev at_line : ℕ → ParserState → Ending ParserState
   at_line l m = evaluated ns literals text capacity d (tree_at ns literals l) m
 
-  fine_line : (tokens scratch : List ℕ) (l : ℕ) (m : ParserState) (x : Ending ParserState) → Ready ns literals text tokens scratch capacity d m → x ≡ at_line l m → Fine g d x
+  fine_line : (tokens scratch : List ℕ) (l : ℕ) (m : ParserState) (x : Ending ParserState)
+      → Ready ns literals text tokens scratch capacity d m → x ≡ at_line l m → Fine g d x
   fine_line tokens scratch l m x r e = fine_left g d m x r.deep (kept ns literals text capacity tokens scratch d l m x r e)
 
-  module _ {tokensₒ scratchₒ : List ℕ} {top : ℕ} {m : ParserState} (r : Ready ns literals text tokensₒ scratchₒ capacity d m) (here : Line ns top) where
+  module _ {tokensₒ scratchₒ : List ℕ} {top : ℕ} {m : ParserState} (r : Ready ns literals text tokensₒ scratchₒ capacity d m)
+      (here : Line ns top) where
     abbrev fk : Forked ns literals
     fk = forked ns literals (tests ns literals text capacity r)
 
@@ -135,7 +141,8 @@ module _ (ns : List ℤ) (literals text : List ℕ) (capacity d : ℕ) where
       low_upto = (Climbs.low_in ns literals text capacity d fk top here.low here.high p w).1
 
       pub low_line : Line ns p.line
-      low_line = record { low = (Climbs.low_in ns literals text capacity d fk top here.low here.high p w).0; high = omega (arith, low_upto, here.high) }
+      low_line = record { low = (Climbs.low_in ns literals text capacity d fk top here.low here.high p w).0;
+          high = omega (arith, low_upto, here.high) }
 
       pub top_last : p.count ≡ 0 → Fork (kind_at ns top) → ⊥
       top_last = Climbs.top_last ns literals text capacity d fk top here.low here.high p w
@@ -146,8 +153,10 @@ module _ (ns : List ℤ) (literals text : List ℕ) (capacity d : ℕ) where
       pub line_whole : (i : ℕ) {l : ℕ} → i ≤ p.count → l ≡ spine_line ns top i → (1 ≤ l) × (l * 4 ≤ length ns)
       line_whole i {l} = Climbs.line_whole ns literals text capacity d fk top here.low here.high p w i l
 
-      pub first_climb : {tokens scratch : List ℕ} {x : Ending ParserState} → x ≡ at_line p.line m → Climbing ns literals text capacity d top p.count tokens scratch x tokens scratch x p.count
-      first_climb {x = x} f = record { tokens_same = refl; scratch_same = refl; low = λ h. h; upto = omega arith; fine = fine_line tokensₒ scratchₒ p.line m x r f; runs = λ _ e. e }
+      pub first_climb : {tokens scratch : List ℕ} {x : Ending ParserState} → x ≡ at_line p.line m
+          → Climbing ns literals text capacity d top p.count tokens scratch x tokens scratch x p.count
+      first_climb {x = x} f = record { tokens_same = refl; scratch_same = refl; low = λ h. h; upto = omega arith;
+          fine = fine_line tokensₒ scratchₒ p.line m x r f; runs = λ _ e. e }
 
       some_below : Fork (kind_at ns top) → 1 ≤ p.count
       some_below fork = go (dec_le 1 p.count)
@@ -164,7 +173,8 @@ module _ (ns : List ℤ) (literals text : List ℕ) (capacity d : ℕ) where
           go (no h) = omega arith
 
       module _ {tokens₀ scratch₀ : List ℕ} {x₀ : Ending ParserState} (ut : length tokens₀ ≡ length tokensₒ) (us : length scratch₀ ≡ length scratchₒ)
-          {tokens scratch : List ℕ} {x : Ending ParserState} {i : ℕ} (c : Climbing ns literals text capacity d top p.count tokens₀ scratch₀ x₀ tokens scratch x i) where
+          {tokens scratch : List ℕ} {x : Ending ParserState} {i : ℕ}
+              (c : Climbing ns literals text capacity d top p.count tokens₀ scratch₀ x₀ tokens scratch x i) where
         -- The state from which a right side is evaluated.
         pub go_ready : (k : ℕ) {t : ParserState} → go t ≡ going k x → Ready ns literals text tokens scratch capacity d t
         go_ready k {t} f =
@@ -181,13 +191,16 @@ module _ (ns : List ℤ) (literals text : List ℕ) (capacity d : ℕ) where
           pub climb_line : Line ns n.b
           climb_line = let v = climb_in in record { low = v.0; high = omega (arith, v.1, here.high) }
 
-          climbs : (y : Ending ParserState) → y ≡ onto (at_line n.b) (going n.kind x) → (m' : ParserState) → x₀ ≡ at_line (spine_line ns top p.count) m' → y ≡ at_line (spine_line ns top j) m'
+          climbs : (y : Ending ParserState) → y ≡ onto (at_line n.b) (going n.kind x) → (m' : ParserState)
+              → x₀ ≡ at_line (spine_line ns top p.count) m' → y ≡ at_line (spine_line ns top j) m'
           climbs y f m' e =
               let back : i - 1 ≡ j = omega (arith, above) in
-              Climbs.climb_runs ns literals text capacity d fk top here.low here.high p w m' i x (omega (arith, above, o)) c.upto (c.runs m' e) l (q ∙ ap (spine_line ns top) (sym back)) n h y f
+              Climbs.climb_runs ns literals text capacity d fk top here.low here.high p w m' i x (omega (arith, above, o)) c.upto
+                  (c.runs m' e) l (q ∙ ap (spine_line ns top) (sym back)) n h y f
               ∙ ap (λ (k : ℕ). at_line (spine_line ns top k) m') back
 
-          pub climb_go : {t : ParserState} → go t ≡ going n.kind x → {y : Ending ParserState} → y ≡ at_line n.b t → {tokens' scratch' : List ℕ} → length tokens' ≡ length tokens → length scratch' ≡ length scratch
+          pub climb_go : {t : ParserState} → go t ≡ going n.kind x → {y : Ending ParserState} → y ≡ at_line n.b t
+              → {tokens' scratch' : List ℕ} → length tokens' ≡ length tokens → length scratch' ≡ length scratch
               → Climbing ns literals text capacity d top p.count tokens₀ scratch₀ x₀ tokens' scratch' y j
           climb_go {t} f {y} v a b = record {
             tokens_same = a ∙ c.tokens_same;
@@ -213,7 +226,8 @@ module _ (ns : List ℤ) (literals text : List ℕ) (capacity d : ℕ) where
         climbed o f = go (is_fork ns top)
           where
             from : (j : ℕ) → i ≡ j → x ≡ at_line (spine_line ns top j) m
-            from j e = c.runs m (Climbs.low_is ns literals text capacity d fk top here.low here.high p w x₀ m f) ∙ ap (λ (j : ℕ). at_line (spine_line ns top j) m) e
+            from j e = c.runs m (Climbs.low_is ns literals text capacity d fk top here.low here.high p w x₀ m f)
+                ∙ ap (λ (j : ℕ). at_line (spine_line ns top j) m) e
 
             go : Below ns top → x ≡ at_line (below ns top) m
             go (left k e) =
@@ -222,7 +236,8 @@ module _ (ns : List ℤ) (literals text : List ℕ) (capacity d : ℕ) where
             go (itself k e) = from 0 (omega (arith, c.upto, none_below k)) ∙ ap (λ (l : ℕ). at_line l m) (sym (spine_first ns top) ∙ sym e)
 
     -- The top, from its left side's ending x.
-    module _ (fork : Fork (kind_at ns top)) {x : Ending ParserState} (g₀ : x ≡ at_line (below ns top) m) {n : Read.Line} (h : n ≡ line_of (node_at ns top)) where
+    module _ (fork : Fork (kind_at ns top)) {x : Ending ParserState} (g₀ : x ≡ at_line (below ns top) m) {n : Read.Line}
+        (h : n ≡ line_of (node_at ns top)) where
       f₀ : x ≡ at_line (left_of ns top) m
       f₀ = g₀ ∙ ap (λ (l : ℕ). at_line l m) (below_fork ns top fork)
 
@@ -232,7 +247,8 @@ module _ (ns : List ℤ) (literals text : List ℕ) (capacity d : ℕ) where
       top_is : (y : Ending ParserState) → y ≡ onto (at_line n.b) (going n.kind x) → y ≡ at_line top m
       top_is y f = Climbs.top_runs ns literals text capacity d fk top here.low here.high fork x m f₀ n h y f
 
-      pub top_go : {tokens scratch : List ℕ} → length tokens ≡ length tokensₒ → length scratch ≡ length scratchₒ → {line : ℕ} {tokensₛ scratchₛ : List ℕ} {mₛ : ParserState}
+      pub top_go : {tokens scratch : List ℕ} → length tokens ≡ length tokensₒ → length scratch ≡ length scratchₒ
+          → {line : ℕ} {tokensₛ scratchₛ : List ℕ} {mₛ : ParserState}
           → Walking ns literals text capacity d line tokensₛ scratchₛ mₛ tokensₒ scratchₒ top m → {t : ParserState} → go t ≡ going n.kind x
           → Walking ns literals text capacity d line tokensₛ scratchₛ mₛ tokens scratch n.b t
       top_go ut us v {t} f =
@@ -248,9 +264,11 @@ module _ (ns : List ℤ) (literals text : List ℕ) (capacity d : ℕ) where
           }
 
     -- An ending that stays is the top's, whether it is a fork or not.
-    pub top_stay : {x : Ending ParserState} → x ≡ at_line (below ns top) m → {n : Read.Line} → n ≡ line_of (node_at ns top) → stay x ≡ going n.kind x → x ≡ at_line top m
+    pub top_stay : {x : Ending ParserState} → x ≡ at_line (below ns top) m → {n : Read.Line} → n ≡ line_of (node_at ns top)
+        → stay x ≡ going n.kind x → x ≡ at_line top m
     top_stay {x} f {n} h q = go (is_fork ns top)
       where
         go : Below ns top → x ≡ at_line top m
-        go (left k e) = Climbs.top_runs ns literals text capacity d fk top here.low here.high k x m (f ∙ ap (λ (l : ℕ). at_line l m) e) n h x (ap (onto (at_line n.b)) q)
+        go (left k e) = Climbs.top_runs ns literals text capacity d fk top here.low here.high k x m (f
+            ∙ ap (λ (l : ℕ). at_line l m) e) n h x (ap (onto (at_line n.b)) q)
         go (itself k e) = f ∙ ap (λ (l : ℕ). at_line l m) e

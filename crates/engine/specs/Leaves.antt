@@ -16,7 +16,8 @@ pub record Onto (ns : List ℤ) (literals text : List ℕ) (capacity d line : �
   pub here : Line ns at
   pub upto : at ≤ line
   pub fit : Fit (setting_of ns literals text capacity) (Pest.set_position p m)
-  pub runs : evaluated ns literals text capacity d (tree_at ns literals at) (Pest.set_position p m) ≡ evaluated ns literals text capacity d (tree_at ns literals line) m
+  pub runs : evaluated ns literals text capacity d (tree_at ns literals at) (Pest.set_position p m)
+      ≡ evaluated ns literals text capacity d (tree_at ns literals line) m
 
 -- An ending that is no stop.
 abbrev pub answer : (good : Bool) → ParserState → Ending ParserState
@@ -26,7 +27,8 @@ answer false m = Err m
 -- Where a walk from the line `line` and the state m ends, at the position p.
 abbrev pub Walked : List ℤ → (literals text : List ℕ) → (capacity d line : ℕ) → ParserState → BytePosition → Halt → Type 0
 Walked ns literals text capacity d line m p (At l) = Onto ns literals text capacity d line m l p.0
-Walked ns literals text capacity d line m p (Done good) = answer good (Pest.set_position p.0 m) ≡ evaluated ns literals text capacity d (tree_at ns literals line) m
+Walked ns literals text capacity d line m p (Done good) = answer good (Pest.set_position p.0 m)
+    ≡ evaluated ns literals text capacity d (tree_at ns literals line) m
 
 -- ── Of the code's setting ──
 -- A state that is fit for the grammar and the text.

@@ -64,7 +64,8 @@ fn of_cause(tokens: &mut [u32], report: &mut [u32], cause: Cause) -> Outcome
 // Kept: the area and its count, as in queueable_token.rt.
 fn of_tokens(tokens: &mut [u32], report: &mut [u32], n: TokenIndex) -> Outcome
     requires { (n.0 * 5 ≤ length tokens.old) × (n.0 ≤ 65535) }
-    ensures { outcome_of result tokens.new report.new ≡ laid (length tokens.old) (length report.old) (Answers.of_tokens (tokens_of (queue_of tokens.old n.0))) }
+    ensures { outcome_of result tokens.new report.new
+        ≡ laid (length tokens.old) (length report.old) (Answers.of_tokens (tokens_of (queue_of tokens.old n.0))) }
 {
     write_tokens(tokens, n);
     report.fill(0);
@@ -78,7 +79,9 @@ fn of_tokens(tokens: &mut [u32], report: &mut [u32], n: TokenIndex) -> Outcome
 // "Err, no limit cause": "furthest, rules reported"
 fn of_failure(tokens: &mut [u32], scratch: &[u32], report: &mut [u32], t: Attempts) -> Outcome
     requires { Reportable scratch.now t report.old }
-    ensures { outcome_of result tokens.new report.new ≡ laid (length tokens.old) (length report.old) (Answers.of_failure t.furthest.0 (ascending (tried scratch.now t).positive) (ascending (tried scratch.now t).negative)) }
+    ensures { outcome_of result tokens.new report.new
+        ≡ laid (length tokens.old) (length report.old)
+        (Answers.of_failure t.furthest.0 (ascending (tried scratch.now t).positive) (ascending (tried scratch.now t).negative)) }
 {
     let rules = write_report(scratch, t, report);
     tokens.fill(0);
@@ -99,7 +102,8 @@ pub(crate) fn conclude(
     r: Ending,
 ) -> Outcome
     requires { ConcludeReady tokens.old scratch.now report.old s.now r }
-    ensures { outcome_of result tokens.new report.new ≡ laid (length tokens.old) (length report.old) (pest_answer (view_end tokens.old scratch.now s.now r)) }
+    ensures { outcome_of result tokens.new report.new
+        ≡ laid (length tokens.old) (length report.old) (pest_answer (view_end tokens.old scratch.now s.now r)) }
 {
     if let Ending::Stop(cause) = r {
         return of_cause(tokens, report, cause);

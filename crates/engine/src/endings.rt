@@ -24,7 +24,8 @@ pub(crate) fn sequence_end(
     r: Ending,
 ) -> Ending
     requires { EndReady scratch.old queue.0 s.old r }
-    ensures { (tokens : List ℕ) → view_end tokens scratch.new s.new result ≡ Pest.sequence_end queue.0 position.0 (view_end tokens scratch.old s.old r) }
+    ensures { (tokens : List ℕ) → view_end tokens scratch.new s.new result
+        ≡ Pest.sequence_end queue.0 position.0 (view_end tokens scratch.old s.old r) }
 {
     match r {
         Ending::Ok => {
@@ -96,7 +97,8 @@ fn looked(s: &ParserState, good: bool) -> Ending
 // Back to where a lookahead began: position, lookahead and stack return.
 fn back_to(scratch: &mut [u32], s: &mut ParserState, position: BytePosition, lookahead: Lookahead)
     requires { StateReady scratch.old s.old }
-    ensures { (tokens : List ℕ) → view tokens scratch.new s.new ≡ Pest.restored (Pest.set_lookahead lookahead (Pest.set_position position.0 (view tokens scratch.old s.old))) }
+    ensures { (tokens : List ℕ) → view tokens scratch.new s.new
+        ≡ Pest.restored (Pest.set_lookahead lookahead (Pest.set_position position.0 (view tokens scratch.old s.old))) }
 {
     s.position = position;
     s.lookahead = lookahead;
@@ -113,7 +115,8 @@ pub(crate) fn lookahead_end(
     r: Ending,
 ) -> Ending
     requires { EndReady scratch.old 0 s.old r }
-    ensures { (tokens : List ℕ) → view_end tokens scratch.new s.new result ≡ Pest.lookahead_end positive lookahead position.0 (view_end tokens scratch.old s.old r) }
+    ensures { (tokens : List ℕ) → view_end tokens scratch.new s.new result
+        ≡ Pest.lookahead_end positive lookahead position.0 (view_end tokens scratch.old s.old r) }
 {
     match r {
         Ending::Ok => {
@@ -145,7 +148,8 @@ pub(crate) fn push_end(
     r: Ending,
 ) -> Ending
     requires { PushEndReady scratch.old start s.old r }
-    ensures { (text tokens : List ℕ) → view_end tokens scratch.new s.new result ≡ Pest.push_end text true line start.0 (view_end tokens scratch.old s.old r) }
+    ensures { (text tokens : List ℕ) → view_end tokens scratch.new s.new result
+        ≡ Pest.push_end text true line start.0 (view_end tokens scratch.old s.old r) }
 {
     match r {
         Ending::Ok => stack_push_end(scratch, s, line, start),
@@ -163,7 +167,8 @@ fn rule_ok(
     b: &Begun,
 ) -> Ending
     requires { RuleOkReady tokens.old scratch.old room b.now.index.0 s.old }
-    ensures { (g : Setting) → g.capacity ≡ room → view_end tokens.new scratch.new s.new result ≡ rule_ended g b.now (Model.Ok (view tokens.old scratch.old s.old)) }
+    ensures { (g : Setting) → g.capacity ≡ room → view_end tokens.new scratch.new s.new result
+        ≡ rule_ended g b.now (Model.Ok (view tokens.old scratch.old s.old)) }
 {
     let due = s.lookahead == Lookahead::Negative;
     match track_rule(scratch, s, due, b) {
@@ -176,7 +181,8 @@ fn rule_ok(
 // A rule whose body failed is tracked, unless under a negative lookahead, and its tokens go.
 fn rule_err(scratch: &mut [u32], s: &mut ParserState, b: &Begun) -> Ending
     requires { Tracking scratch.old s.old }
-    ensures { (g : Setting) (tokens : List ℕ) → view_end tokens scratch.new s.new result ≡ rule_ended g b.now (Model.Err (view tokens scratch.old s.old)) }
+    ensures { (g : Setting) (tokens : List ℕ) → view_end tokens scratch.new s.new result
+        ≡ rule_ended g b.now (Model.Err (view tokens scratch.old s.old)) }
 {
     let due = s.lookahead != Lookahead::Negative;
     match track_rule(scratch, s, due, b) {
@@ -199,7 +205,8 @@ pub(crate) fn rule_end(
     r: Ending,
 ) -> Ending
     requires { RuleEndReady tokens.old scratch.old room b.now.index.0 s.old r }
-    ensures { (g : Setting) → g.capacity ≡ room → view_end tokens.new scratch.new s.new result ≡ rule_ended g b.now (view_end tokens.old scratch.old s.old r) }
+    ensures { (g : Setting) → g.capacity ≡ room → view_end tokens.new scratch.new s.new result
+        ≡ rule_ended g b.now (view_end tokens.old scratch.old s.old r) }
 {
     match r {
         Ending::Ok => rule_ok(tokens, scratch, s, room, b),

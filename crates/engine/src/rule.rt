@@ -52,7 +52,10 @@ pub(crate) fn start_rule(tokens: &mut [u32], s: &mut ParserState, room: usize, l
 // `track`, where it is due by how the body ended, and outside Atomic.
 pub(crate) fn track_rule(scratch: &mut [u32], s: &mut ParserState, due: bool, b: &Begun) -> Ending
     requires { Tracking scratch.old s.old }
-    ensures { ((g : Setting) (tokens : List ℕ) → view_end tokens scratch.new s.new result ≡ Pest.tracking g true due b.now.line b.now.rule b.now.position.0 b.now.noted.positives b.now.noted.negatives b.now.noted.total (view tokens scratch.old s.old) (λ (t : Pest.ParserState). Model.Ok t)) × Outside positives_at lengths_at scratch.old scratch.new }
+    ensures { ((g : Setting) (tokens : List ℕ) → view_end tokens scratch.new s.new result
+        ≡ Pest.tracking g true due b.now.line b.now.rule b.now.position.0 b.now.noted.positives b.now.noted.negatives b.now.noted.total
+        (view tokens scratch.old s.old) (λ (t : Pest.ParserState). Model.Ok t))
+        × Outside positives_at lengths_at scratch.old scratch.new }
 {
     let negative = s.lookahead == Lookahead::Negative;
     if !due || s.atomicity == Atomicity::Atomic {
@@ -80,7 +83,8 @@ fn pair_up(tokens: &mut [u32], index: TokenIndex, n: TokenIndex)
 // The End of a rule that is recorded, and the partner of its Start, which is the token at `index`.
 pub(crate) fn close_rule(tokens: &mut [u32], s: &mut ParserState, room: usize, b: &Begun) -> Ending
     requires { Recording tokens.old room s.old × (b.now.index.0 ≤ room) }
-    ensures state_after { (g : Setting) (scratch : List ℕ) → g.capacity ≡ room → view_end tokens.new scratch s.new result ≡ Pest.close_rule g true b.now.line b.now.rule b.now.index.0 (view tokens.old scratch s.old) }
+    ensures state_after { (g : Setting) (scratch : List ℕ) → g.capacity ≡ room → view_end tokens.new scratch s.new result
+        ≡ Pest.close_rule g true b.now.line b.now.rule b.now.index.0 (view tokens.old scratch s.old) }
     ensures outside { Outside 0 (s.old.queue.0 * 5 + 5) tokens.old tokens.new }
 {
     let n = s.queue;

@@ -66,7 +66,8 @@ pub(crate) fn match_pop(
     p: BytePosition,
 ) -> Option<(Stack, Option<BytePosition>)>
     requires { StackReady scratch.old s }
-    ensures state_after { (line : ℕ) → (m : ParserState) → match_end scratch.new line m result ≡ stack_match_pop text.now true line (stack_of scratch.old s).cache p.0 (set_stack (stack_of scratch.old s) m) }
+    ensures state_after { (line : ℕ) → (m : ParserState) → match_end scratch.new line m result
+        ≡ stack_match_pop text.now true line (stack_of scratch.old s).cache p.0 (set_stack (stack_of scratch.old s) m) }
     ensures outside_stack { OutsideStack scratch.old scratch.new }
 {
     let mut t = s;

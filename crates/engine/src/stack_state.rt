@@ -60,7 +60,8 @@ pub(crate) fn stack_push_end(
     start: BytePosition,
 ) -> Ending
     requires { PushReady scratch.old start s.old }
-    ensures state_after { (text : List ℕ) → (tokens : List ℕ) → view_end tokens scratch.new s.new result ≡ push_end text true line start.0 (Ok (view tokens scratch.old s.old)) }
+    ensures state_after { (text : List ℕ) → (tokens : List ℕ) → view_end tokens scratch.new s.new result
+        ≡ push_end text true line start.0 (Ok (view tokens scratch.old s.old)) }
     ensures outside_stack { OutsideStack scratch.old scratch.new }
 {
     match push(scratch, s.stack, start.0 as u32, s.position.0 as u32) {
@@ -75,7 +76,8 @@ pub(crate) fn stack_push_end(
 // Kind 15: "matches what it pops".
 pub(crate) fn stack_pop(text: &[u8], scratch: &mut [u32], s: &mut ParserState, line: u32) -> Ending
     requires { StateReady scratch.old s.old }
-    ensures state_after { (tokens : List ℕ) → view_end tokens scratch.new s.new result ≡ stack_pop text.now true line (stack_of scratch.old s.old.stack).cache (view tokens scratch.old s.old) }
+    ensures state_after { (tokens : List ℕ) → view_end tokens scratch.new s.new result
+        ≡ stack_pop text.now true line (stack_of scratch.old s.old.stack).cache (view tokens scratch.old s.old) }
     ensures outside_stack { OutsideStack scratch.old scratch.new }
 {
     let p = s.position;
@@ -99,7 +101,8 @@ pub(crate) fn stack_match_peek_slice(
     c: usize,
 ) -> Ending
     requires { StackReady scratch.now s.old.stack }
-    ensures { (tokens : List ℕ) → view_end tokens scratch.now s.new result ≡ stack_match_peek_slice text.now a (if ltb c 2 then Some b else None) (eqb c 1 || eqb c 3) (view tokens scratch.now s.old) }
+    ensures { (tokens : List ℕ) → view_end tokens scratch.now s.new result
+        ≡ stack_match_peek_slice text.now a (if ltb c 2 then Some b else None) (eqb c 1 || eqb c 3) (view tokens scratch.now s.old) }
 {
     let v = s.stack;
     let h = v.height;
@@ -125,7 +128,8 @@ pub(crate) fn stack_match_pop(
     line: u32,
 ) -> Ending
     requires { StateReady scratch.old s.old }
-    ensures state_after { (tokens : List ℕ) → view_end tokens scratch.new s.new result ≡ stack_match_pop text.now true line (stack_of scratch.old s.old.stack).cache s.old.position.0 (view tokens scratch.old s.old) }
+    ensures state_after { (tokens : List ℕ) → view_end tokens scratch.new s.new result
+        ≡ stack_match_pop text.now true line (stack_of scratch.old s.old.stack).cache s.old.position.0 (view tokens scratch.old s.old) }
     ensures outside_stack { OutsideStack scratch.old scratch.new }
 {
     match match_pop(text, scratch, s.stack, s.position) {

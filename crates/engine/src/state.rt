@@ -53,7 +53,8 @@ fn started<'a>(
     scratch: &mut [u32],
 ) -> Outcome
     requires { refusal (input nodes.now literals.now text.now depth_limit call_limit tokens.old report.old (length scratch.old)) ≡ None }
-    ensures { Ran (input nodes.now literals.now text.now depth_limit call_limit tokens.old report.old (length scratch.old)) (outcome_of result tokens.new report.new) scratch.old scratch.new }
+    ensures { Ran (input nodes.now literals.now text.now depth_limit call_limit tokens.old report.old (length scratch.old))
+        (outcome_of result tokens.new report.new) scratch.old scratch.new }
 {
     let room = capacity_of(tokens);
     let root = nodes.len() / 4;
@@ -81,7 +82,8 @@ pub fn run<'a>(
     report: &mut [u32],
     scratch: &mut [u32],
 ) -> Outcome
-    ensures { Ran (input nodes.now literals.now text.now depth_limit call_limit tokens.old report.old (length scratch.old)) (outcome_of result tokens.new report.new) scratch.old scratch.new }
+    ensures { Ran (input nodes.now literals.now text.now depth_limit call_limit tokens.old report.old (length scratch.old))
+        (outcome_of result tokens.new report.new) scratch.old scratch.new }
 {
     match refusal(
         nodes,

@@ -16,7 +16,10 @@ pub(crate) fn match_literal<'a>(
     p: BytePosition,
 ) -> Option<BytePosition>
     requires { offset + size ≤ length literals.now }
-    ensures { (m : Pest.ParserState) → Pest.moved (match_of result) m ≡ Pest.moved (if insensitive then Position.match_insensitive text.now (take size (drop offset literals.now)) p.0 else Position.match_string text.now (take size (drop offset literals.now)) p.0) m }
+    ensures { (m : Pest.ParserState) → Pest.moved (match_of result) m
+        ≡ Pest.moved (if insensitive
+        then Position.match_insensitive text.now (take size (drop offset literals.now)) p.0
+        else Position.match_string text.now (take size (drop offset literals.now)) p.0) m }
 {
     let string = &literals[offset..offset + size];
     if insensitive {

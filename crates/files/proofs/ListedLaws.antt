@@ -14,7 +14,8 @@ use Rattle.reading.specs.declared.parser_state.Cause.{Cause}
 use Rattle.reading.specs.Ending.{Ending, Ok, Err, Stop}
 use Rattle.reading.specs.Forest.{Token, tokens}
 use Rattle.reading.specs.Reading.{State}
-use Rattle.reading.specs.Outcome.{Input, Refusal, refusal, reading, Answer, answer, of_limit, of_tokens, report_of, of_failure, ascending, laid, started, refused, Outcome, outcome}
+use Rattle.reading.specs.Outcome.{Input, Refusal, refusal, reading, Answer, answer, of_limit, of_tokens, report_of, of_failure, ascending}
+use Rattle.reading.specs.Outcome.{laid, started, refused, Outcome, outcome}
 use Rattle.reading.proofs.Exact.{length_numbers}
 use Rattle.sheet.specs.Area.{over}
 use Rattle.sheet.specs.Sheet as Sheet
@@ -44,12 +45,15 @@ module _ (n m : ℕ) where
   laid_counted : (r : Ending State) → Counted (laid n m (answer r))
   laid_counted (Ok s) = go s.tracker.cause
     where
-      go : (c : Option LimitKind) → Counted (laid n m (elim c as (λ _. Answer) [ Some k ↦ of_limit k s.attempts.furthest | None ↦ of_tokens (tokens s.siblings) ]))
+      go : (c : Option LimitKind) → Counted (laid n m (elim c as (λ _. Answer)
+          [ Some k ↦ of_limit k s.attempts.furthest | None ↦ of_tokens (tokens s.siblings) ]))
       go None = in_tokens (tokens s.siblings)
       go (Some k) = limit_counted k s.attempts.furthest
   laid_counted (Err s) = go s.tracker.cause
     where
-      go : (c : Option LimitKind) → Counted (laid n m (elim c as (λ _. Answer) [ Some k ↦ of_limit k s.attempts.furthest | None ↦ of_failure s.attempts.furthest (ascending s.attempts.positive) (ascending s.attempts.negative) ]))
+      go : (c : Option LimitKind) → Counted (laid n m (elim c as (λ _. Answer)
+          [ Some k ↦ of_limit k s.attempts.furthest
+          | None ↦ of_failure s.attempts.furthest (ascending s.attempts.positive) (ascending s.attempts.negative) ]))
       go None = in_report s.attempts.furthest (ascending s.attempts.positive) (ascending s.attempts.negative)
       go (Some k) = limit_counted k s.attempts.furthest
   laid_counted (Stop (Cause.EmptyStack l)) = by_tokens (omega arith)
@@ -93,7 +97,8 @@ module _
 
   pub listed : Listed s l t before after r
   listed =
-      let c : Counted (outcome_of b.answer b.tokens b.report) = subst Counted (sym back_is) (answer_counted (Sheet.reading s node_area) (given l t)) in
+      let c : Counted (outcome_of b.answer b.tokens b.report) =
+              subst Counted (sym back_is) (answer_counted (Sheet.reading s node_area) (given l t)) in
       record {
         written = rw (← listing_is) w.written;
         most = rw (← listing_is) (omega (arith, w.most, few _ c in_t in_r));

@@ -17,7 +17,17 @@ pub fn run_sheet<'a>(
     report: &mut [u32],
     scratch: &mut [u32],
 ) -> Outcome
-    ensures { SheetRun sheet.now nodes.old nodes.new (record { literals = literals.now; text = text.now; depth_limit = depth_limit; call_limit = call_limit; tokens = tokens.old; report = report.old; scratch = scratch.old }) (record { answer = result; tokens = tokens.new; report = report.new; scratch = scratch.new }) }
+    ensures { SheetRun sheet.now nodes.old nodes.new
+        (record {
+          literals = literals.now;
+          text = text.now;
+          depth_limit = depth_limit;
+          call_limit = call_limit;
+          tokens = tokens.old;
+          report = report.old;
+          scratch = scratch.old;
+        })
+        (record { answer = result; tokens = tokens.new; report = report.new; scratch = scratch.new }) }
 {
     let read = read_sheet(sheet, nodes);
     if read.number != 0 {

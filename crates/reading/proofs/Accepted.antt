@@ -18,7 +18,11 @@ use Rattle.matching.specs.Utf8.{within, Utf8, is_utf8}
 use Rattle.matching.proofs.Lead.{and_left, and_right, within_true, within_is}
 use Rattle.matching.proofs.Characters.{is_utf8_iff}
 use Rattle.reading.specs.declared.node.Node.{Node}
-use Rattle.reading.specs.Grammar.{node_at, natural, kind_at, line_count, row, first_line, between, nil, scalar, count, name, edge, literal_part, called, field_rows, fields_fit, line_fits, misfit, Exp, match_string, match_insensitive, match_range, skip, end_of_input, and_then, or_else, rule, sequence, repeat, optional, lookahead, atomic, stack_push, stack_pop, stack_match_pop, restore_on_err, tag_node, call, atomicity_of, peek_slice, tree_of, trees, tree_at, rule_at, plain_line, plain}
+use Rattle.reading.specs.Grammar.{node_at, natural, kind_at, line_count, row, first_line, between, nil, scalar, count, name, edge}
+use Rattle.reading.specs.Grammar.{literal_part, called, field_rows, fields_fit, line_fits, misfit, Exp, match_string, match_insensitive}
+use Rattle.reading.specs.Grammar.{match_range, skip, end_of_input, and_then, or_else, rule, sequence, repeat, optional, lookahead, atomic}
+use Rattle.reading.specs.Grammar.{stack_push, stack_pop, stack_match_pop, restore_on_err, tag_node, call, atomicity_of, peek_slice, tree_of}
+use Rattle.reading.specs.Grammar.{trees, tree_at, rule_at, plain_line, plain}
 use Rattle.reading.specs.Nullable.{still_rows, stands_still, nullable, still_repeat}
 use Rattle.reading.specs.Outcome.{Input, Refusal, refuse, unless, good_text, first_of, tests, refusal}
 use Rattle.reading.proofs.EdgeLaws as EdgeLaws
@@ -48,7 +52,8 @@ pub record Accepted (ns : List ℤ) (literals : List ℕ) : Type 0 where
   -- No repeat has a body that may stand still.
   pub moves : (l : ℕ) → 1 ≤ l → l ≤ line_count ns → kind_at ns l ≡ 10 → nullable ns (natural (node_at ns l).a) ≡ false
 
-pub misfit_fours : (ns : List ℤ) (literals : List ℕ) → misfit ns literals ≡ None → (eqb (line_count ns * 4) (length ns) && within 1 4096 (line_count ns)) ≡ true
+pub misfit_fours : (ns : List ℤ) (literals : List ℕ) → misfit ns literals ≡ None
+    → (eqb (line_count ns * 4) (length ns) && within 1 4096 (line_count ns)) ≡ true
 misfit_fours ns literals e = go (eqb (line_count ns * 4) (length ns) && within 1 4096 (line_count ns)) e
   where
     go : (b : Bool) → (if b then first_line (λ (l : ℕ). not (line_fits ns literals l)) 1 (line_count ns) else Some 0) ≡ None → b ≡ true
@@ -71,7 +76,8 @@ accepted ns literals m s =
     flagged : ℕ → Bool
     flagged l = eqb (kind_at ns l) 10 && nullable ns (natural (node_at ns l).a)
 
-    moves_at : (l : ℕ) → kind_at ns l ≡ 10 → (eqb (kind_at ns l) 10 && nullable ns (natural (node_at ns l).a)) ≡ false → nullable ns (natural (node_at ns l).a) ≡ false
+    moves_at : (l : ℕ) → kind_at ns l ≡ 10 → (eqb (kind_at ns l) 10 && nullable ns (natural (node_at ns l).a)) ≡ false
+        → nullable ns (natural (node_at ns l).a) ≡ false
     moves_at l k e = rw k at e
 
 -- ── A line that fits, unpacked by kind ──
@@ -152,7 +158,8 @@ scalar_true z e =
 part_true : (x : List ℕ) (o n : ℤ) → literal_part x o n ≡ true → Part x (natural o) (natural n)
 part_true x o n e =
     let f : edge x (natural o + natural n) ≡ true = and_right (count o && count n && edge x (natural o)) (edge x (natural o + natural n)) e in
-    let g : edge x (natural o) ≡ true = and_right (count o && count n) (edge x (natural o)) (and_left (count o && count n && edge x (natural o)) (edge x (natural o + natural n)) e) in
+    let g : edge x (natural o) ≡ true = and_right (count o && count n) (edge x (natural o))
+            (and_left (count o && count n && edge x (natural o)) (edge x (natural o + natural n)) e) in
     record {
       inside = EdgeLaws.edge_inside x (natural o + natural n) f;
       text = EdgeLaws.part_whole x (natural o) (natural n) g f;
@@ -169,7 +176,8 @@ module _ (ns : List ℤ) (literals : List ℕ) (l : ℕ) (e : line_fits ns liter
   row_true : (k : ℕ) → kind_at ns l ≡ k → get_or (field_rows ns literals l (node_at ns l)) (k - 1) false ≡ true
   unfolding fields_fit
   row_true k q =
-      let f : fields_fit ns literals l (node_at ns l) ≡ true = and_right (between 1 20 (node_at ns l).kind) (fields_fit ns literals l (node_at ns l)) e in
+      let f : fields_fit ns literals l (node_at ns l) ≡ true =
+              and_right (between 1 20 (node_at ns l).kind) (fields_fit ns literals l (node_at ns l)) e in
       ap (λ (j : ℕ). get_or (field_rows ns literals l (node_at ns l)) (j - 1) false) (sym q) ∙ f
 
   -- The first and the second of a row's three tests.
@@ -192,7 +200,8 @@ module _ (ns : List ℤ) (literals : List ℕ) (l : ℕ) (e : line_fits ns liter
         known_high = w.1;
         part₁ = λ q. part_true literals n.a n.b (and_left _ (nil n.c) (row_true 1 q));
         part₂ = λ q. part_true literals n.a n.b (and_left _ (nil n.c) (row_true 2 q));
-        scalars₃ = λ q. (scalar_true n.a (first (scalar n.a) (scalar n.b) nc (row_true 3 q)), scalar_true n.b (second (scalar n.a) (scalar n.b) nc (row_true 3 q)));
+        scalars₃ = λ q. (scalar_true n.a (first (scalar n.a) (scalar n.b) nc (row_true 3 q)),
+            scalar_true n.b (second (scalar n.a) (scalar n.b) nc (row_true 3 q)));
         a₆ = λ q. lower_true l n.a (first la lb nc (row_true 6 q));
         b₆ = λ q. lower_true l n.b (second la lb nc (row_true 6 q));
         a₇ = λ q. lower_true l n.a (first la lb nc (row_true 7 q));
@@ -207,7 +216,8 @@ module _ (ns : List ℤ) (literals : List ℕ) (l : ℕ) (e : line_fits ns liter
         a₁₃ = λ q. lower_true l n.a (first la (between 0 2 n.b) nc (row_true 13 q));
         b₁₃ = λ q. (between_true 0 2 n.b (second la (between 0 2 n.b) nc (row_true 13 q))).1;
         a₁₄ = λ q. lower_true l n.a (first la nb nc (row_true 14 q));
-        c₁₆ = λ q. or_true (between 0 1 n.c) (between 2 3 n.c && nil n.b) (row_true 16 q) (λ p. omega (arith, (between_true 0 1 n.c p).1)) (λ p. (between_true 2 3 n.c (and_left _ _ p)).1);
+        c₁₆ = λ q. or_true (between 0 1 n.c) (between 2 3 n.c && nil n.b) (row_true 16 q) (λ p. omega (arith, (between_true 0 1 n.c p).1))
+            (λ p. (between_true 2 3 n.c (and_left _ _ p)).1);
         a₁₈ = λ q. lower_true l n.a (first la nb nc (row_true 18 q));
         tag₁₉ = λ q. between_true 1 65535 n.a (first (name n.a) nb nc (row_true 19 q));
         call₂₀ = λ q. called_true ns literals n.a (first (called ns literals n.a) nb nc (row_true 20 q));
@@ -220,8 +230,10 @@ tree_rows literals lower line n =
     let a : ℕ = natural n.a in
     let b : ℕ = natural n.b in
     let literal : List ℕ = take b (drop a literals) in
-    match_string literal ∷ match_insensitive literal ∷ match_range a b ∷ skip a ∷ end_of_input ∷ and_then (lower a) (lower b) ∷ or_else (lower a) (lower b)
-    ∷ rule line a (lower b) ∷ sequence (lower a) ∷ repeat (lower a) ∷ optional (lower a) ∷ lookahead (eqb b 1) (lower a) ∷ atomic (atomicity_of b) (lower a)
+    match_string literal ∷ match_insensitive literal ∷ match_range a b ∷ skip a ∷ end_of_input ∷ and_then (lower a) (lower b)
+        ∷ or_else (lower a) (lower b)
+    ∷ rule line a (lower b) ∷ sequence (lower a) ∷ repeat (lower a) ∷ optional (lower a) ∷ lookahead (eqb b 1) (lower a)
+        ∷ atomic (atomicity_of b) (lower a)
     ∷ stack_push line (lower a) ∷ stack_pop line ∷ peek_slice n ∷ stack_match_pop line ∷ restore_on_err (lower a) ∷ tag_node a ∷ call a ∷ []
 
 module _ (ns : List ℤ) (literals : List ℕ) where
@@ -260,7 +272,8 @@ module _ (ns : List ℤ) (literals : List ℕ) where
   tree_step zero lo hi = absurd (omega arith)
   tree_step (suc k) lo hi =
       let e : suc k - 1 ≡ k = omega arith in
-      look_up (line_count ns) (suc k) (suc k) (omega arith) (omega arith) hi ∙ look_new k ∙ ap (λ (m : ℕ). tree_of literals (trees ns literals m) (suc k) (node_at ns (suc k))) (sym e)
+      look_up (line_count ns) (suc k) (suc k) (omega arith) (omega arith) hi ∙ look_new k
+          ∙ ap (λ (m : ℕ). tree_of literals (trees ns literals m) (suc k) (node_at ns (suc k))) (sym e)
 
   lower_tree : (l x : ℕ) → l ≤ line_count ns → Lower l x → below_at (l - 1) x ≡ tree_at ns literals x
   lower_tree l x hi w = sym (look_up (line_count ns) (l - 1) x w.low (omega (arith, w.high)) (omega (arith, w.high, w.low)))
@@ -273,7 +286,8 @@ module _ {A B : Type 0} (R : A → B → Type 0) (k : ℕ) where
   Each i (x ∷ xs) [] = ⊥
   Each i (x ∷ xs) (y ∷ ys) = (k ≡ suc i → R x y) × Each (suc i) xs ys
 
-  each_at : (i : ℕ) (xs : List A) (ys : List B) → Each i xs ys → (j : ℕ) → k ≡ suc i + j → j < length xs → (a : A) (b : B) → R (get_or xs j a) (get_or ys j b)
+  each_at : (i : ℕ) (xs : List A) (ys : List B) → Each i xs ys → (j : ℕ) → k ≡ suc i + j → j < length xs → (a : A) (b : B)
+      → R (get_or xs j a) (get_or ys j b)
   each_at i [] ys h j e l a b = absurd (omega arith)
   each_at i (x ∷ xs) [] h j e l a b = absurd h
   each_at i (x ∷ xs) (y ∷ ys) h zero e l a b = h.0 (omega arith)
@@ -289,8 +303,10 @@ module _ (ns : List ℤ) (literals : List ℕ) (g : Accepted ns literals) (l : �
   facts = line_facts ns literals l (g.fits l lo hi)
 
   -- What holds at the row of the line's kind.
-  by_kind : {A B : Type 0} (R : A → B → Type 0) (xs : List A) (ys : List B) (a : A) (b : B) → length xs ≡ 20 → Each R (kind_at ns l) 0 xs ys → R (row xs a (node_at ns l).kind) (row ys b (node_at ns l).kind)
-  by_kind R xs ys a b n h = each_at R (kind_at ns l) 0 xs ys h (kind_at ns l - 1) (omega (arith, facts.known_low)) (omega (arith, facts.known_low, facts.known_high)) a b
+  by_kind : {A B : Type 0} (R : A → B → Type 0) (xs : List A) (ys : List B) (a : A) (b : B) → length xs ≡ 20
+      → Each R (kind_at ns l) 0 xs ys → R (row xs a (node_at ns l).kind) (row ys b (node_at ns l).kind)
+  by_kind R xs ys a b n h = each_at R (kind_at ns l) 0 xs ys h (kind_at ns l - 1) (omega (arith, facts.known_low))
+      (omega (arith, facts.known_low, facts.known_high)) a b
 
   down : (x : ℕ) → Lower l x → get_or (trees ns literals (l - 1)) (x - 1) end_of_input ≡ tree_at ns literals x
   down x w = lower_tree ns literals l x hi w
@@ -304,7 +320,8 @@ module _ (ns : List ℤ) (literals : List ℕ) (g : Accepted ns literals) (l : �
       let b : ℕ = natural n.b in
       let f : Fits ns literals l = facts in
       tree_step ns literals l lo hi
-      ∙ by_kind (λ x y. x ≡ y) (tree_rows literals (below_at ns literals (l - 1)) l n) (tree_rows literals (tree_at ns literals) l n) end_of_input end_of_input refl
+      ∙ by_kind (λ x y. x ≡ y) (tree_rows literals (below_at ns literals (l - 1)) l n) (tree_rows literals (tree_at ns literals) l n)
+          end_of_input end_of_input refl
       ((λ q. refl) ▹ (λ q. refl) ▹ (λ q. refl) ▹ (λ q. refl) ▹ (λ q. refl) ▹ (λ q. ap₂ and_then (down a (f.a₆ q)) (down b (f.b₆ q)))
       ▹ (λ q. ap₂ or_else (down a (f.a₇ q)) (down b (f.b₇ q))) ▹ (λ q. ap (rule l a) (down b (f.b₈ q)))
       ▹ (λ q. ap sequence (down a (f.a₉ q))) ▹ (λ q. ap repeat (down a (f.a₁₀ q))) ▹ (λ q. ap optional (down a (f.a₁₁ q)))
@@ -313,7 +330,8 @@ module _ (ns : List ℤ) (literals : List ℕ) (g : Accepted ns literals) (l : �
       ▹ (λ q. ap restore_on_err (down a (f.a₁₈ q))) ▹ (λ q. refl) ▹ (λ q. refl) ▹ tt)
 
   -- The same at a kind: at 6, `tree_at l ≡ and_then (tree_at a) (tree_at b)`, and so for each.
-  pub tree_kind : (k : ℕ) → kind_at ns l ≡ k → tree_at ns literals l ≡ get_or (tree_rows literals (tree_at ns literals) l (node_at ns l)) (k - 1) end_of_input
+  pub tree_kind : (k : ℕ) → kind_at ns l ≡ k
+      → tree_at ns literals l ≡ get_or (tree_rows literals (tree_at ns literals) l (node_at ns l)) (k - 1) end_of_input
   tree_kind k q = tree_row ∙ ap (λ (j : ℕ). get_or (tree_rows literals (tree_at ns literals) l (node_at ns l)) (j - 1) end_of_input) q
 
 -- ── What holds of every line's tree, by induction over the lines ──
@@ -328,13 +346,16 @@ module _ (ns : List ℤ) (literals : List ℕ) (g : Accepted ns literals) where
 
   -- A property of trees that each kind has, if the trees that it is made of have it.
   abbrev Rows : (Exp → Type 0) → ℕ → Type 0
-  Rows P l = Each (λ (x y : Exp). P x) (kind_at ns l) 0 (tree_rows literals (tree_at ns literals) l (node_at ns l)) (tree_rows literals (tree_at ns literals) l (node_at ns l))
+  Rows P l = Each (λ (x y : Exp). P x) (kind_at ns l) 0 (tree_rows literals (tree_at ns literals) l (node_at ns l))
+      (tree_rows literals (tree_at ns literals) l (node_at ns l))
 
   module _ (P : Exp → Type 0) (each : (l : ℕ) → In ns l → ((x : ℕ) → Lower l x → P (tree_at ns literals x)) → Rows P l) where
     pub every_line : (l : ℕ) → In ns l → P (tree_at ns literals l)
     every_line =
         by_lines (λ l. P (tree_at ns literals l))
-        (λ l i ih. subst P (sym (tree_row ns literals g l i.0 i.1)) (by_kind ns literals g l i.0 i.1 (λ (x y : Exp). P x) (tree_rows literals (tree_at ns literals) l (node_at ns l)) (tree_rows literals (tree_at ns literals) l (node_at ns l)) end_of_input end_of_input refl (each l i ih)))
+        (λ l i ih. subst P (sym (tree_row ns literals g l i.0 i.1))
+            (by_kind ns literals g l i.0 i.1 (λ (x y : Exp). P x) (tree_rows literals (tree_at ns literals) l (node_at ns l))
+            (tree_rows literals (tree_at ns literals) l (node_at ns l)) end_of_input end_of_input refl (each l i ih)))
 
     -- Line 0 reads as line 1, and past the lines stands `end_of_input`.
     pub everywhere : P end_of_input → (l : ℕ) → P (tree_at ns literals l)
@@ -343,7 +364,8 @@ module _ (ns : List ℤ) (literals : List ℕ) (g : Accepted ns literals) where
       where
         go : Dec (suc l ≤ line_count ns) → P (tree_at ns literals (suc l))
         go (yes h) = every_line (suc l) (omega arith, h)
-        go (no h) = subst P (sym (get_or-eq_default (trees ns literals (line_count ns)) end_of_input (omega (arith, trees_length ns literals (line_count ns))))) p
+        go (no h) = subst P (sym (get_or-eq_default (trees ns literals (line_count ns)) end_of_input
+            (omega (arith, trees_length ns literals (line_count ns))))) p
 
 -- ── The literals of every tree are whole characters, and its calls name rules ──
 module _ (ns : List ℤ) (literals : List ℕ) (g : Accepted ns literals) where
@@ -386,7 +408,8 @@ module _ (ns : List ℤ) (literals : List ℕ) (g : Accepted ns literals) where
 -- ── Standing still: the set over lines is what the trees compute ──
 -- `set` may say anything of lines that are no rules: no tree calls them.
 module _ (ns : List ℤ) (literals : List ℕ) (g : Accepted ns literals) (set : ℕ → Bool) (same : (l : ℕ) → RuleLine ns l → set l ≡ nullable ns l) where
-  still_step : (l : ℕ) → In ns l → ((x : ℕ) → Lower l x → still set (tree_at ns literals x) ≡ nullable ns x) → still set (tree_at ns literals l) ≡ nullable ns l
+  still_step : (l : ℕ) → In ns l → ((x : ℕ) → Lower l x → still set (tree_at ns literals x) ≡ nullable ns x)
+      → still set (tree_at ns literals l) ≡ nullable ns l
   unfolding stands_still
   still_step l i ih =
       let n : Node = node_at ns l in
@@ -429,7 +452,9 @@ module _ (ns : List ℤ) (literals : List ℕ) (g : Accepted ns literals) (set :
   body_still l r =
       let w : Lower l (natural (node_at ns l).b) = body_lower ns literals g l r in
       tree_still (natural (node_at ns l).b) (w.low, omega (arith, w.high, r.high))
-      ∙ sym (nullable_is ns l r.low r.high ∙ ap (λ (k : ℕ). get_or (still_rows (eqb (natural (node_at ns l).a) 0) (eqb (natural (node_at ns l).b) 0) (nullable ns (natural (node_at ns l).a)) (nullable ns (natural (node_at ns l).b))) (k - 1) false) r.kind_is)
+      ∙ sym (nullable_is ns l r.low r.high ∙ ap (λ (k : ℕ).
+          get_or (still_rows (eqb (natural (node_at ns l).a) 0) (eqb (natural (node_at ns l).b) 0) (nullable ns (natural (node_at ns l).a))
+          (nullable ns (natural (node_at ns l).b))) (k - 1) false) r.kind_is)
 
 -- The set for laws that speak of every number as a line: a rule as the set says, any other line may.
 abbrev pub rule_still : List ℤ → ℕ → Bool
@@ -445,7 +470,8 @@ module _ (ns : List ℤ) (literals : List ℕ) (g : Accepted ns literals) where
   pub body_closed : (l : ℕ) → rule_still ns l ≡ false → still (rule_still ns) (rule_at ns literals l).body ≡ false
   body_closed l e = go (within 1 (line_count ns) l && eqb (kind_at ns l) 8) refl e
     where
-      go : (b : Bool) → (within 1 (line_count ns) l && eqb (kind_at ns l) 8) ≡ b → (not b || nullable ns l) ≡ false → still (rule_still ns) (rule_at ns literals l).body ≡ false
+      go : (b : Bool) → (within 1 (line_count ns) l && eqb (kind_at ns l) 8) ≡ b → (not b || nullable ns l) ≡ false
+          → still (rule_still ns) (rule_at ns literals l).body ≡ false
       go false t q = absurd (true≢false q)
       go true t q =
           let w : (1 ≤ l) × (l ≤ line_count ns) = within_true 1 (line_count ns) l (and_left (within 1 (line_count ns) l) _ t) in
@@ -462,7 +488,8 @@ abbrev not_six : List ℤ → ℕ → Bool
 not_six ns l = not (eqb (kind_at ns l) 6)
 
 module _ (ns : List ℤ) (literals : List ℕ) (g : Accepted ns literals) (p : plain ns ≡ None) where
-  plain_row : (l : ℕ) → In ns l → (k : ℕ) → kind_at ns l ≡ k → get_or (plain_rows (not_six ns (natural (node_at ns l).a)) (not_six ns (natural (node_at ns l).b))) (k - 1) false ≡ true
+  plain_row : (l : ℕ) → In ns l → (k : ℕ) → kind_at ns l ≡ k
+      → get_or (plain_rows (not_six ns (natural (node_at ns l).a)) (not_six ns (natural (node_at ns l).b))) (k - 1) false ≡ true
   plain_row l i k q =
       let f : plain_line ns l ≡ true = not-false (plain_line ns l) (none_found (λ j. not (plain_line ns j)) (line_count ns) p l i.0 i.1) in
       ap (λ (j : ℕ). get_or (plain_rows (not_six ns (natural (node_at ns l).a)) (not_six ns (natural (node_at ns l).b))) (j - 1) false) (sym q) ∙ f
@@ -475,7 +502,8 @@ module _ (ns : List ℤ) (literals : List ℕ) (g : Accepted ns literals) (p : p
   whole_at l i e =
       let n : Node = node_at ns l in
       ap whole (tree_row ns literals g l i.0 i.1)
-      ∙ by_kind ns literals g l i.0 i.1 (λ (x y : Exp). whole x ≡ true) (tree_rows literals (tree_at ns literals) l n) (tree_rows literals (tree_at ns literals) l n) end_of_input end_of_input refl
+      ∙ by_kind ns literals g l i.0 i.1 (λ (x y : Exp). whole x ≡ true) (tree_rows literals (tree_at ns literals) l n)
+          (tree_rows literals (tree_at ns literals) l n) end_of_input end_of_input refl
       ((λ q. refl) ▹ (λ q. refl) ▹ (λ q. refl) ▹ (λ q. refl) ▹ (λ q. refl) ▹ (λ q. six_no l e q) ▹ (λ q. refl) ▹ (λ q. refl) ▹ (λ q. refl)
       ▹ (λ q. refl) ▹ (λ q. refl) ▹ (λ q. refl) ▹ (λ q. refl) ▹ (λ q. refl) ▹ (λ q. refl) ▹ (λ q. refl) ▹ (λ q. refl) ▹ (λ q. refl)
       ▹ (λ q. refl) ▹ (λ q. refl) ▹ tt)
@@ -484,7 +512,8 @@ module _ (ns : List ℤ) (literals : List ℕ) (g : Accepted ns literals) (p : p
     inside : (x : ℕ) → Lower l x → In ns x
     inside x w = (w.low, omega (arith, w.high, i.1))
 
-    never : {A : Type 0} (k : ℕ) → kind_at ns l ≡ k → get_or (plain_rows (not_six ns (natural (node_at ns l).a)) (not_six ns (natural (node_at ns l).b))) (k - 1) false ≡ false → A
+    never : {A : Type 0} (k : ℕ) → kind_at ns l ≡ k
+        → get_or (plain_rows (not_six ns (natural (node_at ns l).a)) (not_six ns (natural (node_at ns l).b))) (k - 1) false ≡ false → A
     never k q e = absurd (true≢false (sym (plain_row l i k q) ∙ e))
 
     plain_each : ((x : ℕ) → Lower l x → Plain (tree_at ns literals x)) → Rows ns literals g Plain l
@@ -493,9 +522,11 @@ module _ (ns : List ℤ) (literals : List ℕ) (g : Accepted ns literals) (p : p
         let b : ℕ = natural (node_at ns l).b in
         let f : Fits ns literals l = facts ns literals g l i.0 i.1 in
         let r : (k : ℕ) → kind_at ns l ≡ k → get_or (plain_rows (not_six ns a) (not_six ns b)) (k - 1) false ≡ true = plain_row l i in
-        let one : Lower l a → not_six ns a ≡ true → Plain (tree_at ns literals a) × (whole (tree_at ns literals a) ≡ true) = λ w e. (ih a w, whole_at a (inside a w) e) in
+        let one : Lower l a → not_six ns a ≡ true → Plain (tree_at ns literals a) × (whole (tree_at ns literals a) ≡ true) =
+                λ w e. (ih a w, whole_at a (inside a w) e) in
         ((λ q. tt) ▹ (λ q. tt) ▹ (λ q. tt) ▹ (λ q. tt) ▹ (λ q. tt) ▹ (λ q. (ih a (f.a₆ q), ih b (f.b₆ q)))
-        ▹ (λ q. (ih a (f.a₇ q), ih b (f.b₇ q), whole_at a (inside a (f.a₇ q)) (and_left (not_six ns a) (not_six ns b) (r 7 q)), whole_at b (inside b (f.b₇ q)) (and_right (not_six ns a) (not_six ns b) (r 7 q))))
+        ▹ (λ q. (ih a (f.a₇ q), ih b (f.b₇ q), whole_at a (inside a (f.a₇ q)) (and_left (not_six ns a) (not_six ns b) (r 7 q)),
+            whole_at b (inside b (f.b₇ q)) (and_right (not_six ns a) (not_six ns b) (r 7 q))))
         ▹ (λ q. (ih b (f.b₈ q), whole_at b (inside b (f.b₈ q)) (r 8 q))) ▹ (λ q. ih a (f.a₉ q)) ▹ (λ q. one (f.a₁₀ q) (r 10 q))
         ▹ (λ q. one (f.a₁₁ q) (r 11 q)) ▹ (λ q. one (f.a₁₂ q) (r 12 q)) ▹ (λ q. one (f.a₁₃ q) (r 13 q)) ▹ (λ q. never 14 q refl)
         ▹ (λ q. never 15 q refl) ▹ (λ q. never 16 q refl) ▹ (λ q. never 17 q refl) ▹ (λ q. never 18 q refl) ▹ (λ q. tt) ▹ (λ q. tt) ▹ tt)

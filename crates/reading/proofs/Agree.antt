@@ -22,7 +22,8 @@ use Rattle.reading.specs.Outcome.{Answer, answer, of_tokens, of_limit, of_failur
 use Rattle.reading.specs.Answer.{tokens_of}
 use Rattle.reading.specs.Answer.{pest_answer, answer_to}
 use Rattle.reading.specs.Pest as Pest
-use Rattle.reading.specs.Pest.{ParserState, QueueableToken, Start, End, Result, Pairs, CustomError, ParsingError, Panic, sort_in, sort, dedup_in, dedup, state}
+use Rattle.reading.specs.Pest.{ParserState, QueueableToken, Start, End, Result, Pairs, CustomError, ParsingError, Panic, sort_in, sort}
+use Rattle.reading.specs.Pest.{dedup_in, dedup, state}
 use Rattle.reading.specs.Sound.{fits_none}
 use Rattle.reading.proofs.Trees.{Literals, Steady}
 use Rattle.reading.proofs.StackLaws.{bottom}
@@ -49,7 +50,8 @@ dedup_in_insert y x (z ∷ l) h = go (ltb x z) refl (eqb x z) refl (eqb y z) ref
     lx : ltb x y ≡ false
     lx = le-ltb x y (omega arith)
 
-    go : (b : Bool) → ltb x z ≡ b → (c : Bool) → eqb x z ≡ c → (d : Bool) → eqb y z ≡ d → dedup_in y (insert x (z ∷ l)) ≡ insert x (dedup_in y (z ∷ l))
+    go : (b : Bool) → ltb x z ≡ b → (c : Bool) → eqb x z ≡ c → (d : Bool) → eqb y z ≡ d
+        → dedup_in y (insert x (z ∷ l)) ≡ insert x (dedup_in y (z ∷ l))
     go true e c f d g =
         let k : x < z = ltb-true x z e in
         rw (e, yx, ne_eqb y z (λ (q : y ≡ z). omega arith), lx, xy, e)
@@ -125,8 +127,10 @@ answers r m (sim_stop c) = refl
 
 module _ (g : Setting) (set : ℕ → Bool) (w : Tested g set) (u : Utf8 g.text) (depth limit : ℕ) (e : Exp) (y : Literals e) (z : Steady set e) where
   -- A run and pest with the stops end alike.
-  pub run_sim : Sim top [] (initial limit).lookahead (initial limit).atomicity (initial limit).siblings (Reading.eval g depth e (initial limit)) (Pest.eval g true depth e (Pest.new limit))
-  run_sim = rw (initial_is limit) (eval_sim g set w depth e y z top [] [] (initial limit) (record { base = refl; inv = bottom }) (initial_fit g limit u))
+  pub run_sim : Sim top [] (initial limit).lookahead (initial limit).atomicity (initial limit).siblings
+      (Reading.eval g depth e (initial limit)) (Pest.eval g true depth e (Pest.new limit))
+  run_sim = rw (initial_is limit) (eval_sim g set w depth e y z top [] [] (initial limit) (record { base = refl; inv = bottom })
+      (initial_fit g limit u))
 
   pub alike : answer (Reading.eval g depth e (initial limit)) ≡ pest_answer (Pest.eval g true depth e (Pest.new limit))
   alike = answers _ _ run_sim
@@ -161,10 +165,14 @@ result_is x (ends_err m) = go m.call_tracker.limit_reached
 
 module _ (g : Setting) (set : ℕ → Bool) (w : Tested g set) (u : Utf8 g.text) (depth limit : ℕ) (e : Exp) (y : Literals e) (z : Steady set e) where
   -- Demand 2, the first half: a run that does not stop answers what `state` gives, and no loop of pest's uses up its rounds.
-  pub agree_at : Runs (Reading.eval g depth e (initial limit)) → (spent : ParserState → Ending ParserState) → answer (Reading.eval g depth e (initial limit)) ≡ answer_to (state spent g depth limit e)
-  agree_at h spent = go _ _ _ (run_sim g set w u depth limit e y z) h (eval_frees g depth e (Pest.new limit)) ∙ ap (λ (x : Ending ParserState). answer_to (Pest.result_of x)) (ending_alike g set w (λ t. Err t) spent u depth limit e y z)
+  pub agree_at : Runs (Reading.eval g depth e (initial limit)) → (spent : ParserState → Ending ParserState)
+      → answer (Reading.eval g depth e (initial limit)) ≡ answer_to (state spent g depth limit e)
+  agree_at h spent = go _ _ _ (run_sim g set w u depth limit e y z) h (eval_frees g depth e (Pest.new limit))
+      ∙ ap (λ (x : Ending ParserState). answer_to (Pest.result_of x)) (ending_alike g set w (λ t. Err t) spent u depth limit e y z)
     where
-      go : (r : Ending State) (m n : Ending ParserState) → Sim top [] (initial limit).lookahead (initial limit).atomicity (initial limit).siblings r m → Runs r → Freed m n → answer r ≡ answer_to (Pest.result_of n)
+      go : (r : Ending State) (m n : Ending ParserState)
+          → Sim top [] (initial limit).lookahead (initial limit).atomicity (initial limit).siblings r m → Runs r → Freed m n
+          → answer r ≡ answer_to (Pest.result_of n)
       go r m n (sim_ok s p i k) q (freed x) = answers _ _ (sim_ok s p i k) ∙ result_is _ (ends_ok (pest_of top p s))
       go r m n (sim_err s p i k) q (freed x) = answers _ _ (sim_err s p i k) ∙ result_is _ (ends_err (pest_of top p s))
       go r m n (sim_stop c) q f = absurd (elim q [ ])

@@ -10,7 +10,8 @@ use lib.ListN.{length, take, drop, take-append-drop}
 use lib.Seq.{take-append_seam, drop-append-le}
 use lib.Dec.{eqb, leb}
 use borrow.Author.Tests.{eqb-true, eqb-false, eq-eqb, ne_eqb, leb-true}
-use Rattle.matching.specs.Utf8.{Range, range, tail, utf8_char, within, fits, value_of, first_of, decode, Utf8, utf8_end, utf8_next, after_value, characters, Edge}
+use Rattle.matching.specs.Utf8.{Range, range, tail, utf8_char, within, fits, value_of, first_of, decode, Utf8, utf8_end, utf8_next}
+use Rattle.matching.specs.Utf8.{after_value, characters, Edge}
 use Rattle.matching.specs.declared.utf8.Character.{Character}
 use Rattle.matching.specs.Position.{starts_by, fold_case, same_folded}
 use Rattle.matching.proofs.Lead.{and_left, and_right, within_true, decode_nil}
@@ -24,8 +25,10 @@ use Rattle.reading.specs.Ford.{or_nil, characters_of}
 pub data Form : List ℕ → ℕ → ℕ → Type 0 where
   one : (a v : ℕ) (x : List ℕ) → a < 0x80 → v ≡ a → Form (a ∷ x) 1 v
   two : (a t v : ℕ) (x : List ℕ) → (0xC2 ≤ a) × (a ≤ 0xDF) → (0x80 ≤ t) × (t ≤ 0xBF) → v + 12416 ≡ a * 64 + t → Form (a ∷ t ∷ x) 2 v
-  three : (a t u v : ℕ) (x : List ℕ) → (0xE0 ≤ a) × (a ≤ 0xEF) → (0x80 ≤ t) × (t ≤ 0xBF) → (0x80 ≤ u) × (u ≤ 0xBF) → v + 925824 ≡ a * 4096 + t * 64 + u → 0x800 ≤ v → Form (a ∷ t ∷ u ∷ x) 3 v
-  four : (a t u w v : ℕ) (x : List ℕ) → (0xF0 ≤ a) × (a ≤ 0xF4) → (0x80 ≤ t) × (t ≤ 0xBF) → (0x80 ≤ u) × (u ≤ 0xBF) → (0x80 ≤ w) × (w ≤ 0xBF) → v + 63447168 ≡ a * 262144 + t * 4096 + u * 64 + w → 0x10000 ≤ v → Form (a ∷ t ∷ u ∷ w ∷ x) 4 v
+  three : (a t u v : ℕ) (x : List ℕ) → (0xE0 ≤ a) × (a ≤ 0xEF) → (0x80 ≤ t) × (t ≤ 0xBF) → (0x80 ≤ u) × (u ≤ 0xBF)
+      → v + 925824 ≡ a * 4096 + t * 64 + u → 0x800 ≤ v → Form (a ∷ t ∷ u ∷ x) 3 v
+  four : (a t u w v : ℕ) (x : List ℕ) → (0xF0 ≤ a) × (a ≤ 0xF4) → (0x80 ≤ t) × (t ≤ 0xBF) → (0x80 ≤ u) × (u ≤ 0xBF) → (0x80 ≤ w)
+      × (w ≤ 0xBF) → v + 63447168 ≡ a * 262144 + t * 4096 + u * 64 + w → 0x10000 ≤ v → Form (a ∷ t ∷ u ∷ w ∷ x) 4 v
 
 no_byte : {A : Type 0} → false ≡ true → A
 no_byte e = let z : ◌≡◌ {A = ℕ} 0 1 = cc in absurd (omega arith)
@@ -51,7 +54,8 @@ form_two (a ∷ t ∷ x) v e q =
 
 -- Rows of three and four bytes, over the ranges of the first two.
 module _ (low high from to : ℕ) (l : 0x80 ≤ from) (h : to ≤ 0xBF) where
-  form_three : 0xE0 ≤ low → high ≤ 0xEF → 925824 + 0x800 ≤ low * 4096 + from * 64 + 0x80 → (x : List ℕ) (v : ℕ) → fits (range low high ∷ range from to ∷ tail ∷ []) x ≡ true → v ≡ value_of 3 x → Form x 3 v
+  form_three : 0xE0 ≤ low → high ≤ 0xEF → 925824 + 0x800 ≤ low * 4096 + from * 64 + 0x80 → (x : List ℕ) (v : ℕ)
+      → fits (range low high ∷ range from to ∷ tail ∷ []) x ≡ true → v ≡ value_of 3 x → Form x 3 v
   form_three i j least [] v e q = no_byte e
   form_three i j least (a ∷ []) v e q = no_byte (in_rest low high a false e)
   form_three i j least (a ∷ t ∷ []) v e q = no_byte (in_rest from to t false (in_rest low high a (within from to t && false) e))
@@ -63,14 +67,18 @@ module _ (low high from to : ℕ) (l : 0x80 ≤ from) (h : to ≤ 0xBF) where
       let z : v + 925824 ≡ a * 4096 + t * 64 + u = omega (arith, q, r, s, k) in
       three a t u v x (omega (arith, r), omega (arith, r)) (omega (arith, s), omega (arith, s)) k z (omega (arith, r, s, k))
 
-  form_four : 0xF0 ≤ low → high ≤ 0xF4 → 63447168 + 0x10000 ≤ low * 262144 + from * 4096 + 0x80 * 64 + 0x80 → (x : List ℕ) (v : ℕ) → fits (range low high ∷ range from to ∷ tail ∷ tail ∷ []) x ≡ true → v ≡ value_of 4 x → Form x 4 v
+  form_four : 0xF0 ≤ low → high ≤ 0xF4 → 63447168 + 0x10000 ≤ low * 262144 + from * 4096 + 0x80 * 64 + 0x80 → (x : List ℕ) (v : ℕ)
+      → fits (range low high ∷ range from to ∷ tail ∷ tail ∷ []) x ≡ true → v ≡ value_of 4 x → Form x 4 v
   form_four i j least [] v e q = no_byte e
   form_four i j least (a ∷ []) v e q = no_byte (in_rest low high a false e)
   form_four i j least (a ∷ t ∷ []) v e q = no_byte (in_rest from to t false (in_rest low high a (within from to t && false) e))
-  form_four i j least (a ∷ t ∷ u ∷ []) v e q = no_byte (in_rest 0x80 0xBF u false (in_rest from to t (within 0x80 0xBF u && false) (in_rest low high a (within from to t && (within 0x80 0xBF u && false)) e)))
+  form_four i j least (a ∷ t ∷ u ∷ []) v e q =
+      no_byte (in_rest 0x80 0xBF u false (in_rest from to t (within 0x80 0xBF u && false)
+      (in_rest low high a (within from to t && (within 0x80 0xBF u && false)) e)))
   form_four i j least (a ∷ t ∷ u ∷ w ∷ x) v e q =
       let r : (low ≤ a) × (a ≤ high) = in_first low high a (fits (range from to ∷ tail ∷ tail ∷ []) (t ∷ u ∷ w ∷ x)) e in
-      let e₁ : fits (range from to ∷ tail ∷ tail ∷ []) (t ∷ u ∷ w ∷ x) ≡ true = in_rest low high a (fits (range from to ∷ tail ∷ tail ∷ []) (t ∷ u ∷ w ∷ x)) e in
+      let e₁ : fits (range from to ∷ tail ∷ tail ∷ []) (t ∷ u ∷ w ∷ x) ≡ true =
+              in_rest low high a (fits (range from to ∷ tail ∷ tail ∷ []) (t ∷ u ∷ w ∷ x)) e in
       let s : (from ≤ t) × (t ≤ to) = in_first from to t (fits (tail ∷ tail ∷ []) (u ∷ w ∷ x)) e₁ in
       let e₂ : fits (tail ∷ tail ∷ []) (u ∷ w ∷ x) ≡ true = in_rest from to t (fits (tail ∷ tail ∷ []) (u ∷ w ∷ x)) e₁ in
       let k : (0x80 ≤ u) × (u ≤ 0xBF) = in_first 0x80 0xBF u (fits (tail ∷ []) (w ∷ x)) e₂ in
@@ -82,13 +90,15 @@ module _ (low high from to : ℕ) (l : 0x80 ≤ from) (h : to ≤ 0xBF) where
 infixr 20 ◌or_row◌
 data Rows (x : List ℕ) : List (List Range) → Type 0 where
   no_row : Rows x []
-  ◌or_row◌ : {f : List Range} {fs : List (List Range)} → ((v : ℕ) → fits f x ≡ true → v ≡ value_of (length f) x → Form x (length f) v) → Rows x fs → Rows x (f ∷ fs)
+  ◌or_row◌ : {f : List Range} {fs : List (List Range)} → ((v : ℕ) → fits f x ≡ true → v ≡ value_of (length f) x → Form x (length f) v)
+      → Rows x fs → Rows x (f ∷ fs)
 
 by_rows : (x : List ℕ) (fs : List (List Range)) → Rows x fs → (c : Character) → first_of fs x ≡ Some c → Form x c.size c.value
 by_rows x fs no_row c e = let z : ◌≡◌ {A = ℕ} 0 1 = cc in absurd (omega arith)
 by_rows x _ (◌or_row◌ {f = f} {fs = gs} r rs) c e = go (fits f x) refl e (by_rows x gs rs c)
   where
-    go : (b : Bool) → fits f x ≡ b → cond b (Some (record { size = length f; value = value_of (length f) x })) (first_of gs x) ≡ Some c → (first_of gs x ≡ Some c → Form x c.size c.value) → Form x c.size c.value
+    go : (b : Bool) → fits f x ≡ b → cond b (Some (record { size = length f; value = value_of (length f) x })) (first_of gs x) ≡ Some c
+        → (first_of gs x ≡ Some c → Form x c.size c.value) → Form x c.size c.value
     go true q e ih =
         let k : record { size = length f; value = value_of (length f) x } ≡ c = cc in
         subst (λ (d : Character). Form x d.size d.value) k (r (value_of (length f) x) q refl)
@@ -145,14 +155,16 @@ folded_ascii = record { left = on_left; right = on_right }
     on_left m n h = go (folded n)
       where
         go : Folded n → same_folded m n ≡ eqb m n
-        go (letter k e) = ne_eqb (fold_case m) (fold_case n) (λ (q : fold_case m ≡ fold_case n). absurd (omega (arith, fold_high m h, e))) ∙ sym (ne_eqb m n (λ (q : m ≡ n). absurd (omega arith)))
+        go (letter k e) = ne_eqb (fold_case m) (fold_case n) (λ (q : fold_case m ≡ fold_case n). absurd (omega (arith, fold_high m h, e)))
+            ∙ sym (ne_eqb m n (λ (q : m ≡ n). absurd (omega arith)))
         go (other e) = rw (fold_high m h, e)
 
     on_right : (m n : ℕ) → 0x80 ≤ n → same_folded m n ≡ eqb m n
     on_right m n h = go (folded m)
       where
         go : Folded m → same_folded m n ≡ eqb m n
-        go (letter k e) = ne_eqb (fold_case m) (fold_case n) (λ (q : fold_case m ≡ fold_case n). absurd (omega (arith, fold_high n h, e))) ∙ sym (ne_eqb m n (λ (q : m ≡ n). absurd (omega arith)))
+        go (letter k e) = ne_eqb (fold_case m) (fold_case n) (λ (q : fold_case m ≡ fold_case n). absurd (omega (arith, fold_high n h, e)))
+            ∙ sym (ne_eqb m n (λ (q : m ≡ n). absurd (omega arith)))
         go (other e) = rw (fold_high n h, e)
 
 -- ── The first characters of two texts ──
@@ -174,10 +186,12 @@ module _ (same : ℕ → ℕ → Bool) (h : Ascii same) where
 
   -- The characters differ in their first bytes and in their values, and the greater ones are outside ASCII.
   less : {l x : List ℕ} {c d v w a b : ℕ} → (a < b) × (0x80 ≤ b) → (v < w) × (0x80 ≤ w) → Compared same (a ∷ l) (b ∷ x) c d v w
-  less {v = v} {w = w} {a = a} {b = b} p q = unlike (right_not v w q.1 (λ (z : v ≡ w). absurd (omega (arith, q)))) (rw (right_not a b p.1 (λ (z : a ≡ b). absurd (omega (arith, p)))))
+  less {v = v} {w = w} {a = a} {b = b} p q =
+      unlike (right_not v w q.1 (λ (z : v ≡ w). absurd (omega (arith, q)))) (rw (right_not a b p.1 (λ (z : a ≡ b). absurd (omega (arith, p)))))
 
   more : {l x : List ℕ} {c d v w a b : ℕ} → (b < a) × (0x80 ≤ a) → (w < v) × (0x80 ≤ v) → Compared same (a ∷ l) (b ∷ x) c d v w
-  more {v = v} {w = w} {a = a} {b = b} p q = unlike (left_not v w q.1 (λ (z : v ≡ w). absurd (omega (arith, q)))) (rw (left_not a b p.1 (λ (z : a ≡ b). absurd (omega (arith, p)))))
+  more {v = v} {w = w} {a = a} {b = b} p q =
+      unlike (left_not v w q.1 (λ (z : v ≡ w). absurd (omega (arith, q)))) (rw (left_not a b p.1 (λ (z : a ≡ b). absurd (omega (arith, p)))))
 
   false_unless : (b : Bool) → (b ≡ true → ⊥) → b ≡ false
   false_unless true n = absurd (n refl)
@@ -198,7 +212,8 @@ module _ (same : ℕ → ℕ → Bool) (h : Ascii same) where
       go false k = unlike (rw (e, f) k) (rw k)
 
   -- Characters of the same size: the values are equal exactly where all bytes are.
-  of_two : {l x : List ℕ} {a t b s v w : ℕ} → (0x80 ≤ a) × (0x80 ≤ t) × (0x80 ≤ v) → (v ≡ w → (a ≡ b) × (t ≡ s)) → (a ≡ b → t ≡ s → v ≡ w) → Compared same (a ∷ t ∷ l) (b ∷ s ∷ x) 2 2 v w
+  of_two : {l x : List ℕ} {a t b s v w : ℕ} → (0x80 ≤ a) × (0x80 ≤ t) × (0x80 ≤ v) → (v ≡ w → (a ≡ b) × (t ≡ s)) → (a ≡ b → t ≡ s → v ≡ w)
+      → Compared same (a ∷ t ∷ l) (b ∷ s ∷ x) 2 2 v w
   of_two {l} {x} {a} {t} {b} {s} {v} {w} k to from = go (eqb v w) refl
     where
       go : (y : Bool) → eqb v w ≡ y → Compared same (a ∷ t ∷ l) (b ∷ s ∷ x) 2 2 v w
@@ -208,7 +223,8 @@ module _ (same : ℕ → ℕ → Bool) (h : Ascii same) where
       go false e = unlike (h.left v w k.2 ∙ e) (false_unless _ (λ (m : (same a b && (same t s && starts_by same l x)) ≡ true).
           eqb-false v w e (from (head a b _ k.0 m) (head t s _ k.1 (rest a b _ m)))))
 
-  of_three : {l x : List ℕ} {a t u b s r v w : ℕ} → (0x80 ≤ a) × (0x80 ≤ t) × (0x80 ≤ u) × (0x80 ≤ v) → (v ≡ w → (a ≡ b) × (t ≡ s) × (u ≡ r)) → (a ≡ b → t ≡ s → u ≡ r → v ≡ w)
+  of_three : {l x : List ℕ} {a t u b s r v w : ℕ} → (0x80 ≤ a) × (0x80 ≤ t) × (0x80 ≤ u) × (0x80 ≤ v)
+      → (v ≡ w → (a ≡ b) × (t ≡ s) × (u ≡ r)) → (a ≡ b → t ≡ s → u ≡ r → v ≡ w)
       → Compared same (a ∷ t ∷ u ∷ l) (b ∷ s ∷ r ∷ x) 3 3 v w
   of_three {l} {x} {a} {t} {u} {b} {s} {r} {v} {w} k to from = go (eqb v w) refl
     where
@@ -220,7 +236,8 @@ module _ (same : ℕ → ℕ → Bool) (h : Ascii same) where
           let m₁ : (same t s && (same u r && starts_by same l x)) ≡ true = rest a b _ m in
           eqb-false v w e (from (head a b _ k.0 m) (head t s _ k.1 m₁) (head u r _ k.2 (rest t s _ m₁)))))
 
-  of_four : {l x : List ℕ} {a t u i b s r j v w : ℕ} → (0x80 ≤ a) × (0x80 ≤ t) × (0x80 ≤ u) × (0x80 ≤ i) × (0x80 ≤ v) → (v ≡ w → (a ≡ b) × (t ≡ s) × (u ≡ r) × (i ≡ j))
+  of_four : {l x : List ℕ} {a t u i b s r j v w : ℕ} → (0x80 ≤ a) × (0x80 ≤ t) × (0x80 ≤ u) × (0x80 ≤ i) × (0x80 ≤ v)
+      → (v ≡ w → (a ≡ b) × (t ≡ s) × (u ≡ r) × (i ≡ j))
       → (a ≡ b → t ≡ s → u ≡ r → i ≡ j → v ≡ w) → Compared same (a ∷ t ∷ u ∷ i ∷ l) (b ∷ s ∷ r ∷ j ∷ x) 4 4 v w
   of_four {l} {x} {a} {t} {u} {i} {b} {s} {r} {j} {v} {w} k to from = go (eqb v w) refl
     where
@@ -228,7 +245,8 @@ module _ (same : ℕ → ℕ → Bool) (h : Ascii same) where
       go true e =
           let z : v ≡ w = eqb-true v w e in
           alike refl (left_is v w k.4 z) (rw (left_is a b k.0 (to z).0, left_is t s k.1 (to z).1, left_is u r k.2 (to z).2, left_is i j k.3 (to z).3))
-      go false e = unlike (h.left v w k.4 ∙ e) (false_unless _ (λ (m : (same a b && (same t s && (same u r && (same i j && starts_by same l x)))) ≡ true).
+      go false e = unlike (h.left v w k.4 ∙ e) (false_unless _
+          (λ (m : (same a b && (same t s && (same u r && (same i j && starts_by same l x)))) ≡ true).
           let m₁ : (same t s && (same u r && (same i j && starts_by same l x))) ≡ true = rest a b _ m in
           let m₂ : (same u r && (same i j && starts_by same l x)) ≡ true = rest t s _ m₁ in
           eqb-false v w e (from (head a b _ k.0 m) (head t s _ k.1 m₁) (head u r _ k.2 m₂) (head i j _ k.3 (rest u r _ m₂)))))
@@ -238,23 +256,33 @@ module _ (same : ℕ → ℕ → Bool) (h : Ascii same) where
   compare l x c d v w (one a v' l' p e) (two b s w' x' q r f) = less (omega (arith, q), omega (arith, q)) (omega (arith, q, r), omega (arith, q, r))
   compare l x c d v w (one a v' l' p e) (three b s r w' x' q q₁ q₂ f m) = less (omega (arith, q), omega (arith, q)) (omega arith, omega arith)
   compare l x c d v w (one a v' l' p e) (four b s r j w' x' q q₁ q₂ q₃ f m) = less (omega (arith, q), omega (arith, q)) (omega arith, omega arith)
-  compare l x c d v w (two a t v' l' p p₁ e) (one b w' x' q f) = more (omega (arith, p), omega (arith, p)) (omega (arith, p, p₁), omega (arith, p, p₁))
+  compare l x c d v w (two a t v' l' p p₁ e) (one b w' x' q f) =
+      more (omega (arith, p), omega (arith, p)) (omega (arith, p, p₁), omega (arith, p, p₁))
   compare l x c d v w (two a t v' l' p p₁ e) (two b s w' x' q q₁ f) =
-      of_two (omega (arith, p), omega (arith, p₁), omega (arith, p, p₁)) (λ (z : v ≡ w). (omega (arith, p₁, q₁), omega (arith, p₁, q₁))) (λ (z : a ≡ b) (z₁ : t ≡ s). omega arith)
-  compare l x c d v w (two a t v' l' p p₁ e) (three b s r w' x' q q₁ q₂ f m) = less (omega (arith, p, q), omega (arith, q)) (omega (arith, p, p₁), omega arith)
-  compare l x c d v w (two a t v' l' p p₁ e) (four b s r j w' x' q q₁ q₂ q₃ f m) = less (omega (arith, p, q), omega (arith, q)) (omega (arith, p, p₁), omega arith)
+      of_two (omega (arith, p), omega (arith, p₁), omega (arith, p, p₁)) (λ (z : v ≡ w). (omega (arith, p₁, q₁), omega (arith, p₁, q₁)))
+          (λ (z : a ≡ b) (z₁ : t ≡ s). omega arith)
+  compare l x c d v w (two a t v' l' p p₁ e) (three b s r w' x' q q₁ q₂ f m) =
+      less (omega (arith, p, q), omega (arith, q)) (omega (arith, p, p₁), omega arith)
+  compare l x c d v w (two a t v' l' p p₁ e) (four b s r j w' x' q q₁ q₂ q₃ f m) =
+      less (omega (arith, p, q), omega (arith, q)) (omega (arith, p, p₁), omega arith)
   compare l x c d v w (three a t u v' l' p p₁ p₂ e k) (one b w' x' q f) = more (omega (arith, p), omega (arith, p)) (omega arith, omega arith)
-  compare l x c d v w (three a t u v' l' p p₁ p₂ e k) (two b s w' x' q q₁ f) = more (omega (arith, p, q), omega (arith, p)) (omega (arith, q, q₁), omega arith)
+  compare l x c d v w (three a t u v' l' p p₁ p₂ e k) (two b s w' x' q q₁ f) =
+      more (omega (arith, p, q), omega (arith, p)) (omega (arith, q, q₁), omega arith)
   compare l x c d v w (three a t u v' l' p p₁ p₂ e k) (three b s r w' x' q q₁ q₂ f m) =
       of_three (omega (arith, p), omega (arith, p₁), omega (arith, p₂), omega arith)
-      (λ (z : v ≡ w). (omega (arith, p₁, p₂, q₁, q₂), omega (arith, p₁, p₂, q₁, q₂), omega (arith, p₁, p₂, q₁, q₂))) (λ (z : a ≡ b) (z₁ : t ≡ s) (z₂ : u ≡ r). omega arith)
-  compare l x c d v w (three a t u v' l' p p₁ p₂ e k) (four b s r j w' x' q q₁ q₂ q₃ f m) = less (omega (arith, p, q), omega (arith, q)) (omega (arith, p, p₁, p₂), omega arith)
+      (λ (z : v ≡ w). (omega (arith, p₁, p₂, q₁, q₂), omega (arith, p₁, p₂, q₁, q₂), omega (arith, p₁, p₂, q₁, q₂)))
+          (λ (z : a ≡ b) (z₁ : t ≡ s) (z₂ : u ≡ r). omega arith)
+  compare l x c d v w (three a t u v' l' p p₁ p₂ e k) (four b s r j w' x' q q₁ q₂ q₃ f m) =
+      less (omega (arith, p, q), omega (arith, q)) (omega (arith, p, p₁, p₂), omega arith)
   compare l x c d v w (four a t u i v' l' p p₁ p₂ p₃ e k) (one b w' x' q f) = more (omega (arith, p), omega (arith, p)) (omega arith, omega arith)
-  compare l x c d v w (four a t u i v' l' p p₁ p₂ p₃ e k) (two b s w' x' q q₁ f) = more (omega (arith, p, q), omega (arith, p)) (omega (arith, q, q₁), omega arith)
-  compare l x c d v w (four a t u i v' l' p p₁ p₂ p₃ e k) (three b s r w' x' q q₁ q₂ f m) = more (omega (arith, p, q), omega (arith, p)) (omega (arith, q, q₁, q₂), omega arith)
+  compare l x c d v w (four a t u i v' l' p p₁ p₂ p₃ e k) (two b s w' x' q q₁ f) =
+      more (omega (arith, p, q), omega (arith, p)) (omega (arith, q, q₁), omega arith)
+  compare l x c d v w (four a t u i v' l' p p₁ p₂ p₃ e k) (three b s r w' x' q q₁ q₂ f m) =
+      more (omega (arith, p, q), omega (arith, p)) (omega (arith, q, q₁, q₂), omega arith)
   compare l x c d v w (four a t u i v' l' p p₁ p₂ p₃ e k) (four b s r j w' x' q q₁ q₂ q₃ f m) =
       of_four (omega (arith, p), omega (arith, p₁), omega (arith, p₂), omega (arith, p₃), omega arith)
-      (λ (z : v ≡ w). (omega (arith, p₁, p₂, p₃, q₁, q₂, q₃), omega (arith, p₁, p₂, p₃, q₁, q₂, q₃), omega (arith, p₁, p₂, p₃, q₁, q₂, q₃), omega (arith, p₁, p₂, p₃, q₁, q₂, q₃)))
+      (λ (z : v ≡ w). (omega (arith, p₁, p₂, p₃, q₁, q₂, q₃), omega (arith, p₁, p₂, p₃, q₁, q₂, q₃), omega (arith, p₁, p₂, p₃, q₁, q₂, q₃),
+          omega (arith, p₁, p₂, p₃, q₁, q₂, q₃)))
       (λ (z : a ≡ b) (z₁ : t ≡ s) (z₂ : u ≡ r) (z₃ : i ≡ j). omega arith)
 
   pub compared : (l x : List ℕ) (c d : Character) → decode l ≡ Some c → decode x ≡ Some d → Compared same l x c.size d.size c.value d.value
@@ -292,7 +320,8 @@ rest_longer x y c e = drop-append-le c.size x y (omega (arith, char_size x c e))
 
 whole_append : (x : List ℕ) → Utf8 x → (y : List ℕ) → Utf8 y → Utf8 (x ++ y)
 whole_append x utf8_end y v = v
-whole_append x (utf8_next x' c e u) y v = utf8_next (x' ++ y) c (decode_longer x' y c e) (subst Utf8 (sym (rest_longer x' y c e)) (whole_append (drop c.size x') u y v))
+whole_append x (utf8_next x' c e u) y v = utf8_next (x' ++ y) c (decode_longer x' y c e)
+    (subst Utf8 (sym (rest_longer x' y c e)) (whole_append (drop c.size x') u y v))
 
 characters_append : (x : List ℕ) → Utf8 x → (y : List ℕ) → Utf8 y → characters_of (x ++ y) ≡ characters_of x ++ characters_of y
 characters_append x utf8_end y v = rw of_nil

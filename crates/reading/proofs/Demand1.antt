@@ -15,7 +15,8 @@ use Rattle.reading.specs.Grammar.{misfit}
 use Rattle.reading.specs.Nullable.{still_repeat}
 use Rattle.reading.specs.Forest.{tokens}
 use Rattle.reading.specs.Reading.{State}
-use Rattle.reading.specs.Outcome.{Input, Refusal, refuse, unless, good_text, first_of, tests, refusal, reading, Answer, answer, of_limit, of_tokens, of_failure, ascending, Outcome, refused, started, outcome}
+use Rattle.reading.specs.Outcome.{Input, Refusal, refuse, unless, good_text, first_of, tests, refusal, reading, Answer, answer, of_limit}
+use Rattle.reading.specs.Outcome.{of_tokens, of_failure, ascending, Outcome, refused, started, outcome}
 use Rattle.reading.specs.Run.{Ran}
 use Rattle.reading.specs.Demand1.{Refused, Ended, with_tokens, without, Demand1}
 use Rattle.reading.proofs.Runs.{run_bounded, outcome_is}
@@ -36,11 +37,16 @@ refuse_numbered n (Some p) l h r e = let q : n ≡ r.number = cc in (omega arith
 
 -- The tests 4 to 9 refuse by their numbers, whatever they find.
 numbered : (a b c d e f : Option ℕ) → Numbered (refuse 4 a ∷ refuse 5 b ∷ refuse 6 c ∷ refuse 7 d ∷ refuse 8 e ∷ refuse 9 f ∷ [])
-numbered a b c d e f = (refuse_numbered 4 a (omega arith) (omega arith), (refuse_numbered 5 b (omega arith) (omega arith), (refuse_numbered 6 c (omega arith) (omega arith), (refuse_numbered 7 d (omega arith) (omega arith), (refuse_numbered 8 e (omega arith) (omega arith), (refuse_numbered 9 f (omega arith) (omega arith), tt))))))
+numbered a b c d e f = (refuse_numbered 4 a (omega arith) (omega arith),
+    (refuse_numbered 5 b (omega arith) (omega arith),
+    (refuse_numbered 6 c (omega arith) (omega arith),
+    (refuse_numbered 7 d (omega arith) (omega arith),
+    (refuse_numbered 8 e (omega arith) (omega arith), (refuse_numbered 9 f (omega arith) (omega arith), tt))))))
 
 refusal_numbered : (i : Input) (r : Refusal) → refusal i ≡ Some r → (4 ≤ r.number) × (r.number ≤ 9)
 unfolding refusal
-refusal_numbered i = first_numbered (tests i) (numbered (unless (good_text i.literals)) (misfit i.nodes i.literals) (still_repeat i.nodes) (unless (good_text i.text)) (unless (within 1 1024 i.depth_limit)) (unless (leb 515 (length i.report) && leb 4864 i.scratch)))
+refusal_numbered i = first_numbered (tests i) (numbered (unless (good_text i.literals)) (misfit i.nodes i.literals) (still_repeat i.nodes)
+    (unless (good_text i.text)) (unless (within 1 1024 i.depth_limit)) (unless (leb 515 (length i.report) && leb 4864 i.scratch)))
 
 -- ── Started ──
 limit_ended : (k : LimitKind) (f : ℕ) → Ended (of_limit k f).number
@@ -50,12 +56,15 @@ limit_ended LimitKind.Stack f = without 12 (omega arith) (omega arith)
 ended : (r : Ending State) → Ended (answer r).number
 ended (Ok s) = go s.tracker.cause
   where
-    go : (c : Option LimitKind) → Ended (elim c as (λ _. Answer) [ Some k ↦ of_limit k s.attempts.furthest | None ↦ of_tokens (tokens s.siblings) ]).number
+    go : (c : Option LimitKind) → Ended (elim c as (λ _. Answer)
+        [ Some k ↦ of_limit k s.attempts.furthest | None ↦ of_tokens (tokens s.siblings) ]).number
     go None = with_tokens
     go (Some k) = limit_ended k s.attempts.furthest
 ended (Err s) = go s.tracker.cause
   where
-    go : (c : Option LimitKind) → Ended (elim c as (λ _. Answer) [ Some k ↦ of_limit k s.attempts.furthest | None ↦ of_failure s.attempts.furthest (ascending s.attempts.positive) (ascending s.attempts.negative) ]).number
+    go : (c : Option LimitKind) → Ended (elim c as (λ _. Answer)
+        [ Some k ↦ of_limit k s.attempts.furthest
+        | None ↦ of_failure s.attempts.furthest (ascending s.attempts.positive) (ascending s.attempts.negative) ]).number
     go None = without 10 (omega arith) (omega arith)
     go (Some k) = limit_ended k s.attempts.furthest
 ended (Stop (Cause.EmptyStack l)) = without 13 (omega arith) (omega arith)

@@ -11,7 +11,8 @@ use Rattle.reading.specs.declared.call_limit_tracker.LimitKind.{LimitKind}
 use Rattle.reading.specs.Ending.{Ending, Ok, Err, Stop}
 use Rattle.reading.specs.Forest.{Forest, tokens}
 use Rattle.reading.specs.Reading.{State, Attempts}
-use Rattle.reading.specs.Outcome.{Input, refusal, reading, Answer, answer, of_limit, of_tokens, of_failure, ascending, report_of, numbers, filled, Outcome, outcome}
+use Rattle.reading.specs.Outcome.{Input, refusal, reading, Answer, answer, of_limit, of_tokens, of_failure, ascending, report_of, numbers}
+use Rattle.reading.specs.Outcome.{filled, Outcome, outcome}
 use Rattle.reading.specs.Run.{Ran}
 use Rattle.reading.specs.Demand1.{Within, bounded_err}
 use Rattle.reading.specs.Demand3.{Parses, parses, Fails, fails, SameSet, token_list, error_report, Each, Demand3}
@@ -32,13 +33,16 @@ limit_number r LimitKind.Stack f = is_other 12 (omega arith)
 numbered : (r : Ending State) → Numbered r (answer r).number
 numbered (Ok s) = go s.tracker.cause refl
   where
-    go : (c : Option LimitKind) → s.tracker.cause ≡ c → Numbered (Ok s) (elim c as (λ _. Answer) [ Some k ↦ of_limit k s.attempts.furthest | None ↦ of_tokens (tokens s.siblings) ]).number
+    go : (c : Option LimitKind) → s.tracker.cause ≡ c
+        → Numbered (Ok s) (elim c as (λ _. Answer) [ Some k ↦ of_limit k s.attempts.furthest | None ↦ of_tokens (tokens s.siblings) ]).number
     go None e = is_0 s.siblings (parses s e)
     go (Some k) e = limit_number (Ok s) k s.attempts.furthest
 numbered (Err s) = go s.tracker.cause refl
   where
     go : (c : Option LimitKind) → s.tracker.cause ≡ c
-        → Numbered (Err s) (elim c as (λ _. Answer) [ Some k ↦ of_limit k s.attempts.furthest | None ↦ of_failure s.attempts.furthest (ascending s.attempts.positive) (ascending s.attempts.negative) ]).number
+        → Numbered (Err s) (elim c as (λ _. Answer)
+            [ Some k ↦ of_limit k s.attempts.furthest
+            | None ↦ of_failure s.attempts.furthest (ascending s.attempts.positive) (ascending s.attempts.negative) ]).number
     go None e = is_10 s.attempts (fails s e)
     go (Some k) e = limit_number (Err s) k s.attempts.furthest
 numbered (Stop (Cause.EmptyStack l)) = is_other 13 (omega arith)
@@ -85,14 +89,16 @@ module _ (i : Input) (e : refusal i ≡ None) where
 
   -- "with that reading's tokens or report as laid out there"
   pub tokens_laid : (f : Forest) → Parses (reading i) f → (outcome i).tokens ≡ filled (length i.tokens) (numbers (tokens f))
-  tokens_laid f p = ap (λ (o : Outcome). o.tokens) (outcome_is i e) ∙ ap (λ (a : Answer). filled (length i.tokens) (numbers a.tokens)) (answer_parsed (reading i) f p)
+  tokens_laid f p = ap (λ (o : Outcome). o.tokens) (outcome_is i e)
+      ∙ ap (λ (a : Answer). filled (length i.tokens) (numbers a.tokens)) (answer_parsed (reading i) f p)
 
   pub count_laid : (f : Forest) → Parses (reading i) f → (outcome i).count ≡ length (tokens f)
   count_laid f p = ap (λ (o : Outcome). o.count) (outcome_is i e) ∙ ap (λ (a : Answer). a.count) (answer_parsed (reading i) f p)
 
   pub report_laid : (a : Attempts) → Fails (reading i) a
       → (outcome i).report ≡ filled (length i.report) (report_of a.furthest (ascending a.positive) (ascending a.negative))
-  report_laid a p = ap (λ (o : Outcome). o.report) (outcome_is i e) ∙ ap (λ (x : Answer). filled (length i.report) x.report) (answer_failed (reading i) a p)
+  report_laid a p = ap (λ (o : Outcome). o.report) (outcome_is i e)
+      ∙ ap (λ (x : Answer). filled (length i.report) x.report) (answer_failed (reading i) a p)
 
   few : (a : Attempts) → Fails (reading i) a → Few a.positive a.negative
   few a p = go (reading i) a p (run_bounded i e)
@@ -104,7 +110,8 @@ module _ (i : Input) (e : refusal i ≡ None) where
   report_room = (Accepted.started i e).report_room
 
   pub each : Each i (outcome i)
-  each = record { zero_exactly = zero_exactly; ten_exactly = ten_exactly; tokens_laid = tokens_laid; count_laid = count_laid; report_laid = report_laid }
+  each = record { zero_exactly = zero_exactly; ten_exactly = ten_exactly; tokens_laid = tokens_laid; count_laid = count_laid;
+      report_laid = report_laid }
 
 -- ── Any two started runs ──
 module _ (i j : Input) (e : refusal i ≡ None) (d : refusal j ≡ None) where
@@ -115,17 +122,21 @@ module _ (i j : Input) (e : refusal i ≡ None) (d : refusal j ≡ None) where
       (subst (λ (x : List ℕ). (take (length (tokens f) * 5) (filled (length i.tokens) (numbers (tokens f))) ≡ x) ↔ (f ≡ h)) (sym (list_is j d h q))
       (tokens_area_exact (length i.tokens) (length j.tokens) f h))
     where
-      list_is : (i : Input) (e : refusal i ≡ None) (f : Forest) → Parses (reading i) f → token_list (outcome i) ≡ take (length (tokens f) * 5) (filled (length i.tokens) (numbers (tokens f)))
+      list_is : (i : Input) (e : refusal i ≡ None) (f : Forest) → Parses (reading i) f
+          → token_list (outcome i) ≡ take (length (tokens f) * 5) (filled (length i.tokens) (numbers (tokens f)))
       list_is i e f p = ap₂ (λ (n : ℕ) (x : List ℕ). take (n * 5) x) (count_laid i e f p) (tokens_laid i e f p)
 
   -- "If both failed to match, their error reports are equal exactly when that reading gives both the same furthest position, the same
   -- set of positive rules and the same set of negative rules."
   pub same_reports : (a b : Attempts) → Fails (reading i) a → Fails (reading j) b
-      → (error_report (outcome i) ≡ error_report (outcome j)) ↔ ((a.furthest ≡ b.furthest) × SameSet a.positive b.positive × SameSet a.negative b.negative)
+      → (error_report (outcome i) ≡ error_report (outcome j)) ↔ ((a.furthest ≡ b.furthest) × SameSet a.positive b.positive
+          × SameSet a.negative b.negative)
   same_reports a b p q =
       subst (λ (x : List ℕ). (take 515 x ≡ error_report (outcome j)) ↔ Same) (sym (report_laid i e a p))
-      (subst (λ (x : List ℕ). (take 515 (filled (length i.report) (report_of a.furthest (ascending a.positive) (ascending a.negative))) ≡ take 515 x) ↔ Same) (sym (report_laid j d b q))
-      (report_exact (length i.report) (length j.report) a.furthest b.furthest a.positive a.negative b.positive b.negative (report_room i e) (report_room j d) (few i e a p) (few j d b q)))
+      (subst (λ (x : List ℕ). (take 515 (filled (length i.report) (report_of a.furthest (ascending a.positive) (ascending a.negative)))
+          ≡ take 515 x) ↔ Same) (sym (report_laid j d b q))
+      (report_exact (length i.report) (length j.report) a.furthest b.furthest a.positive a.negative b.positive b.negative (report_room i e)
+          (report_room j d) (few i e a p) (few j d b q)))
     where
       Same : Type 0
       Same = (a.furthest ≡ b.furthest) × SameSet a.positive b.positive × SameSet a.negative b.negative

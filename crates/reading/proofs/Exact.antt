@@ -48,7 +48,8 @@ add_path : {f g c d : Forest} {r r' t t' s s' e e' : ℕ} → f ≡ g → r ≡ 
 add_path pf pr pt ps pe pc = λ i. add (pf i) (pr i) (pt i) (ps i) (pe i) (pc i)
 
 -- What equal token lists of two nonempty forests give.
-split : (A C A' C' : List Token) (S E S' E' : Token) → length A ≡ length A' → (A ++ (S ∷ (C ++ (E ∷ [])))) ≡ (A' ++ (S' ∷ (C' ++ (E' ∷ [])))) → (A ≡ A') × (S ≡ S') × (C ≡ C')
+split : (A C A' C' : List Token) (S E S' E' : Token) → length A ≡ length A'
+    → (A ++ (S ∷ (C ++ (E ∷ [])))) ≡ (A' ++ (S' ∷ (C' ++ (E' ∷ [])))) → (A ≡ A') × (S ≡ S') × (C ≡ C')
 split A C A' C' S E S' E' l e =
     let u : (A ≡ A') × (S ∷ (C ++ (E ∷ [])) ≡ S' ∷ (C' ++ (E' ∷ []))) = append_inj A A' (S ∷ (C ++ (E ∷ []))) (S' ∷ (C' ++ (E' ∷ []))) l e in
     let b : C ++ (E ∷ []) ≡ C' ++ (E' ∷ []) = cc u.1 in
@@ -72,7 +73,8 @@ tokens_inj n (add f r t s z c) (add g r' t' s' z' c') e =
     let sz : size f ≡ size g = omega (arith, ap (λ (k : Token). k.partner) pe) in
     let l : length (tokens_from n f) ≡ length (tokens_from n g) = length_tokens n f ∙ sz ∙ sym (length_tokens n g) in
     let u : (tokens_from n f ≡ tokens_from n g) × (S ≡ S') × (C ≡ C') = split (tokens_from n f) C (tokens_from n g) C' S E S' E' l e in
-    add_path (tokens_inj n f g u.0) (ap (λ (k : Token). k.rule) pe) (ap (λ (k : Token). k.tag) pe) (ap (λ (k : Token). k.position) u.1) (ap (λ (k : Token). k.position) pe)
+    add_path (tokens_inj n f g u.0) (ap (λ (k : Token). k.rule) pe) (ap (λ (k : Token). k.tag) pe) (ap (λ (k : Token). k.position) u.1)
+        (ap (λ (k : Token). k.position) pe)
     (tokens_inj (suc (n + size f)) c c' (u.2 ∙ ap (λ (k : ℕ). tokens_from (suc (n + k)) c') (sym sz)))
 
 -- Demand 3, tokens.
@@ -108,14 +110,16 @@ length_numbers (t ∷ ts) = omega (arith, length_numbers ts)
 -- The first `count` tokens of two areas, as numbers.
 pub tokens_area_exact : (m n : ℕ) (f g : Forest)
     → (take (length (tokens f) * 5) (filled m (numbers (tokens f))) ≡ take (length (tokens g) * 5) (filled n (numbers (tokens g)))) ↔ (f ≡ g)
-tokens_area_exact m n f g = (λ e. tokens_inj 0 f g (numbers_inj (tokens f) (tokens g) (sym (first m f) ∙ e ∙ first n g)), λ (p : f ≡ g). first m f ∙ ap (λ (h : Forest). numbers (tokens h)) p ∙ sym (first n g))
+tokens_area_exact m n f g = (λ e. tokens_inj 0 f g (numbers_inj (tokens f) (tokens g) (sym (first m f) ∙ e ∙ first n g)), λ (p : f ≡ g).
+    first m f ∙ ap (λ (h : Forest). numbers (tokens h)) p ∙ sym (first n g))
   where
     first : (m : ℕ) (f : Forest) → take (length (tokens f) * 5) (filled m (numbers (tokens f))) ≡ numbers (tokens f)
     first m f = rw (← length_numbers (tokens f)) (take_filled m (numbers (tokens f)))
 
 -- ── Report ──
 -- What follows the lists is of no account: the counts say where they end.
-pub report_inj : (f f' : ℕ) (ps ns ps' ns' zs zs' : List ℕ) → report_of f ps ns ++ zs ≡ report_of f' ps' ns' ++ zs' → (f ≡ f') × (ps ≡ ps') × (ns ≡ ns')
+pub report_inj : (f f' : ℕ) (ps ns ps' ns' zs zs' : List ℕ) → report_of f ps ns ++ zs ≡ report_of f' ps' ns' ++ zs' → (f ≡ f') × (ps ≡ ps')
+    × (ns ≡ ns')
 report_inj f f' ps ns ps' ns' zs zs' e =
     let h : f ≡ f' = cc in
     let lp : length ps ≡ length ps' = cc in
@@ -213,7 +217,8 @@ ascends (x ∷ l) = asc_insert x (ascending l) (ascends l)
 
 pub same_members : (l : List ℕ) → SameSet (ascending l) l
 same_members [] y = (λ m. m, λ m. m)
-same_members (x ∷ l) y = (λ m. down (mem_insert x (ascending l) y m) (same_members l y).0, λ m. in_insert x (ascending l) y (up (Memᴰ.cases_cons m) (same_members l y).1))
+same_members (x ∷ l) y = (λ m. down (mem_insert x (ascending l) y m) (same_members l y).0, λ m.
+    in_insert x (ascending l) y (up (Memᴰ.cases_cons m) (same_members l y).1))
   where
     down : (y ≡ x) ⊎ Memᴰ y (ascending l) → (Memᴰ y (ascending l) → Memᴰ y l) → Memᴰ y (x ∷ l)
     down (inl e) f = Memᴰ.head e
@@ -315,7 +320,8 @@ report_exact n n' f f' ps ns ps' ns' h h' k k' = (to, from)
 
     to : report_area n f ps ns ≡ report_area n' f' ps' ns' → (f ≡ f') × SameSet ps ps' × SameSet ns ns'
     to e =
-        let u : (f ≡ f') × (ascending ps ≡ ascending ps') × (ascending ns ≡ ascending ns') = report_inj f f' (ascending ps) (ascending ns) (ascending ps') (ascending ns') _ _ (sym split ∙ e ∙ split') in
+        let u : (f ≡ f') × (ascending ps ≡ ascending ps') × (ascending ns ≡ ascending ns') =
+                report_inj f f' (ascending ps) (ascending ns) (ascending ps') (ascending ns') _ _ (sym split ∙ e ∙ split') in
         (u.0, by_lists ps ps' u.1, by_lists ns ns' u.2)
 
     from : (f ≡ f') × SameSet ps ps' × SameSet ns ns' → report_area n f ps ns ≡ report_area n' f' ps' ns'

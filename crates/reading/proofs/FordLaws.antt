@@ -4,7 +4,8 @@ use mathlib.Core.List.{List, [], ◌∷◌, ◌++◌, append_assoc}
 use Rattle.std.specs.Prelude.{Option, None, Some}
 use Prim.Native.Nat.{ℕ}
 use native.Mathlib.Omega.{arith}
-use Rattle.reading.specs.Ford.{Peg, star, Ford, f_empty, f_terminal, f_terminal_fail, f_terminal_end, f_nonterminal, f_sequence, f_sequence_fail, f_first, f_second, f_more, f_done, f_not_fail, f_not}
+use Rattle.reading.specs.Ford.{Peg, star, Ford, f_empty, f_terminal, f_terminal_fail, f_terminal_end, f_nonterminal, f_sequence}
+use Rattle.reading.specs.Ford.{f_sequence_fail, f_first, f_second, f_more, f_done, f_not_fail, f_not}
 
 module _ (rules : ℕ → Peg) where
   apart : {A : Type 0} {y : List ℕ} → Path (Option (List ℕ)) (Some y) None → A
@@ -21,7 +22,8 @@ module _ (rules : ℕ → Peg) where
   ford_unique e x o (f_terminal_fail p a x' t) o' (f_terminal_fail p' a' x'' t') = refl
   ford_unique e x o (f_terminal_end p) o' (f_terminal_end p') = refl
   ford_unique e x o (f_nonterminal l x' o₁ d) o' (f_nonterminal l' x'' o₂ d') = ford_unique (rules l) x' o₁ d o₂ d'
-  ford_unique e x o (f_sequence a b x' y o₁ d f) o' (f_sequence a' b' x'' y' o₂ d' f') = ford_unique b y o₁ f o₂ (subst (λ (z : List ℕ). Ford rules b z o₂) (sym (inner (ford_unique a x' (Some y) d (Some y') d'))) f')
+  ford_unique e x o (f_sequence a b x' y o₁ d f) o' (f_sequence a' b' x'' y' o₂ d' f') =
+      ford_unique b y o₁ f o₂ (subst (λ (z : List ℕ). Ford rules b z o₂) (sym (inner (ford_unique a x' (Some y) d (Some y') d'))) f')
   ford_unique e x o (f_sequence a b x' y o₁ d f) o' (f_sequence_fail a' b' x'' d') = apart (ford_unique a x' (Some y) d None d')
   ford_unique e x o (f_sequence_fail a b x' d) o' (f_sequence a' b' x'' y' o₂ d' f') = apart (sym (ford_unique a x' None d (Some y') d'))
   ford_unique e x o (f_sequence_fail a b x' d) o' (f_sequence_fail a' b' x'' d') = refl
@@ -29,7 +31,8 @@ module _ (rules : ℕ → Peg) where
   ford_unique e x o (f_first a b x' y d) o' (f_second a' b' x'' o₂ d' f') = apart (ford_unique a x' (Some y) d None d')
   ford_unique e x o (f_second a b x' o₁ d f) o' (f_first a' b' x'' y' d') = apart (sym (ford_unique a x' None d (Some y') d'))
   ford_unique e x o (f_second a b x' o₁ d f) o' (f_second a' b' x'' o₂ d' f') = ford_unique b x' o₁ f o₂ f'
-  ford_unique e x o (f_more a x' y o₁ d f) o' (f_more a' x'' y' o₂ d' f') = ford_unique (star a) y o₁ f o₂ (subst (λ (z : List ℕ). Ford rules (star a) z o₂) (sym (inner (ford_unique a x' (Some y) d (Some y') d'))) f')
+  ford_unique e x o (f_more a x' y o₁ d f) o' (f_more a' x'' y' o₂ d' f') =
+      ford_unique (star a) y o₁ f o₂ (subst (λ (z : List ℕ). Ford rules (star a) z o₂) (sym (inner (ford_unique a x' (Some y) d (Some y') d'))) f')
   ford_unique e x o (f_more a x' y o₁ d f) o' (f_done a' x'' d') = apart (ford_unique a x' (Some y) d None d')
   ford_unique e x o (f_done a x' d) o' (f_more a' x'' y' o₂ d' f') = apart (sym (ford_unique a x' None d (Some y') d'))
   ford_unique e x o (f_done a x' d) o' (f_done a' x'' d') = refl

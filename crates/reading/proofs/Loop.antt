@@ -32,7 +32,8 @@ module _ {S : Type 0} (limited : S → Bool) (body : S → Ending S) (rounds : �
   rounds_loop zero s h l = absurd (omega arith)
   rounds_loop (suc n) s h l = rw (unrolled n s) (go (body s) refl (λ t k i. rounds_loop n t k i))
     where
-      go : (r : Ending S) → body s ≡ r → ((t : S) → Holds t → left t < n → Loops limited body t (rounds n t)) → Loops limited body s (again r (λ t. rounds n t))
+      go : (r : Ending S) → body s ≡ r → ((t : S) → Holds t → left t < n → Loops limited body t (rounds n t))
+          → Loops limited body s (again r (λ t. rounds n t))
       go (Ok t) e ih =
           let k : Holds t × (left t < left s) = nearer s t h e in
           rw (again_ok t (λ u. rounds n u)) (loops_ok s t _ e (ih t k.0 (omega arith)))
@@ -51,33 +52,41 @@ module _ (g : Setting) where
     pub good : Good open_rules saves popped s
     pub fit : Fit g (pest_of open_rules popped s)
 
-  reading_loop : (r : State → Ending State) (f : ParserState → Ending ParserState) → Preserves g r f → Keeping g false f → (n : ℕ) (s : State) → Stands s → length g.text - s.position < n
+  reading_loop : (r : State → Ending State) (f : ParserState → Ending ParserState) → Preserves g r f → Keeping g false f
+      → (n : ℕ) (s : State) → Stands s → length g.text - s.position < n
       → Loops Reading.limited r s (Reading.rounds n r s)
   reading_loop r f h k = rounds_loop Reading.limited r (λ n s. Reading.rounds n r s) (λ x again. Reading.round_end x again)
       (λ n s. refl) (λ s again. refl) (λ s again. refl) (λ c again. refl)
       Stands (λ s. left_of s.position) nearer
     where
       nearer : (s t : State) → Stands s → r s ≡ Ok t → Stands t × (left_of t.position < left_of s.position)
-      nearer s t x e = go (r s) (f (pest_of x.open_rules x.popped s)) e (h x.open_rules x.saves x.popped s x.good x.fit) (k (pest_of x.open_rules x.popped s) x.fit)
+      nearer s t x e = go (r s) (f (pest_of x.open_rules x.popped s)) e (h x.open_rules x.saves x.popped s x.good x.fit)
+          (k (pest_of x.open_rules x.popped s) x.fit)
         where
-          go : (y : Ending State) (m : Ending ParserState) → y ≡ Ok t → Sim x.open_rules x.saves s.lookahead s.atomicity s.siblings y m → KeepsFrom g false (pest_of x.open_rules x.popped s) m
+          go : (y : Ending State) (m : Ending ParserState) → y ≡ Ok t → Sim x.open_rules x.saves s.lookahead s.atomicity s.siblings y m
+              → KeepsFrom g false (pest_of x.open_rules x.popped s) m
               → Stands t × (left_of t.position < left_of s.position)
           go y m q (sim_ok u p j l) (keeps_ok n w i) =
               let z : u ≡ t = cc in
-              (subst Stands z (record { open_rules = x.open_rules; saves = x.saves; popped = p; good = j; fit = w.fit }), omega (arith, i refl, w.fit.edge.inside, ap (λ (v : State). v.position) z))
+              (subst Stands z (record { open_rules = x.open_rules; saves = x.saves; popped = p; good = j; fit = w.fit }),
+                  omega (arith, i refl, w.fit.edge.inside, ap (λ (v : State). v.position) z))
           go y m q (sim_err u p j l) w = let z : ◌≡◌ {A = ℕ} 0 1 = cc in absurd (omega arith)
           go y m q (sim_stop c) w = let z : ◌≡◌ {A = ℕ} 0 1 = cc in absurd (omega arith)
 
 -- A repeat whose body may not stand still, at every depth, from every state of a run: its rounds are a loop's.
-pub repeat_is_loop : (g : Setting) (set : ℕ → Bool) (w : Tested g set) (depth : ℕ) (e : Exp) → Literals e → Steady set e → still set e ≡ false → (s : State) → Stands g s
+pub repeat_is_loop : (g : Setting) (set : ℕ → Bool) (w : Tested g set) (depth : ℕ) (e : Exp) → Literals e → Steady set e
+    → still set e ≡ false → (s : State) → Stands g s
     → Loops Reading.limited (Reading.eval g depth e) s (Reading.rounds (most_rounds g s.position) (Reading.eval g depth e) s)
 repeat_is_loop g set w depth e u y b s x =
-    reading_loop g (Reading.eval g depth e) (Pest.eval g true depth e) (eval_sim g set w depth e u y) (subst (λ (c : Bool). Keeping g c (Pest.eval g true depth e)) b (eval_keeps g set w depth e u y))
+    reading_loop g (Reading.eval g depth e) (Pest.eval g true depth e) (eval_sim g set w depth e u y)
+        (subst (λ (c : Bool). Keeping g c (Pest.eval g true depth e)) b (eval_keeps g set w depth e u y))
     (most_rounds g s.position) s x (omega arith)
 
 -- The same of pest's own, which nothing bounds, whatever it answers to rounds that are used up.
-pub pest_repeat_is_loop : (g : Setting) (set : ℕ → Bool) (w : Tested g set) (spent : ParserState → Ending ParserState) (depth : ℕ) (e : Exp) → Literals e → Steady set e → still set e ≡ false → (m : ParserState) → Free g m
-    → Loops Pest.limit_reached (Pest.eval_with g false spent depth e) m (Pest.loop spent (most_rounds g m.position) (Pest.eval_with g false spent depth e) m)
+pub pest_repeat_is_loop : (g : Setting) (set : ℕ → Bool) (w : Tested g set) (spent : ParserState
+    → Ending ParserState) (depth : ℕ) (e : Exp) → Literals e → Steady set e → still set e ≡ false → (m : ParserState) → Free g m
+    → Loops Pest.limit_reached (Pest.eval_with g false spent depth e) m
+        (Pest.loop spent (most_rounds g m.position) (Pest.eval_with g false spent depth e) m)
 pest_repeat_is_loop g set w spent depth e u y b m x =
     rounds_loop Pest.limit_reached body (λ n t. Pest.loop spent n body t) (λ r again. Pest.round_end r again)
     (λ n t. refl) (λ t again. refl) (λ t again. refl) (λ c again. refl)

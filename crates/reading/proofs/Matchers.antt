@@ -38,7 +38,8 @@ module _ (text : List ℕ) where
       no_match true = refl
       no_match false = refl
 
-      go : (a : Bool) → leb (p + length l) (length text) ≡ a → (b : Bool) → starts_by eqb l (drop p text) ≡ b → Position.match_string text l p ≡ Pest.match_string text l p
+      go : (a : Bool) → leb (p + length l) (length text) ≡ a → (b : Bool) → starts_by eqb l (drop p text) ≡ b
+          → Position.match_string text l p ≡ Pest.match_string text l p
       go true e true f =
           let h : p + length l ≤ length text = leb-true (p + length l) (length text) e in
           rw (le-leb p (length text) (omega arith), e, same_starts eqb l (drop p text) (omega (arith, length-drop p text)), f)
@@ -51,7 +52,8 @@ module _ (text : List ℕ) where
           rw (e, k)
       go false e false f = rw (e, f) (no_match (leb p (length text)))
 
-  pub folded_same : (l : List ℕ) → Utf8 l → (p : ℕ) → p ≤ length text → Utf8 (drop p text) → Position.match_insensitive text l p ≡ Pest.match_insensitive text l p
+  pub folded_same : (l : List ℕ) → Utf8 l → (p : ℕ) → p ≤ length text → Utf8 (drop p text)
+      → Position.match_insensitive text l p ≡ Pest.match_insensitive text l p
   unfolding match_by
   folded_same l u p k v = go (starts_by same_folded l x) refl
     where
@@ -65,7 +67,8 @@ module _ (text : List ℕ) where
       part : starts_by same_folded l x ≡ true → Pest.has_part x (length l) ≡ true
       part f =
           let n : length l ≤ length x = starts_length same_folded l x f in
-          rw (le-leb (length l) (length x) n) (edge_boundary x (length l) (record { inside = n; whole = edge_after same_folded folded_keeps l u x v f }))
+          rw (le-leb (length l) (length x) n) (edge_boundary x (length l)
+              (record { inside = n; whole = edge_after same_folded folded_keeps l u x v f }))
 
       go : (b : Bool) → starts_by same_folded l x ≡ b → Position.match_insensitive text l p ≡ Pest.match_insensitive text l p
       go true f =
@@ -87,27 +90,34 @@ module _ (text : List ℕ) where
   skip_from zero p len h = rw (le-leb (p + len) (length text) h)
   skip_from (suc n) p len h = go (decode (drop (p + len) text)) (char_forward text (λ v. true) (p + len)) (λ c. skip_from n p (len + c))
     where
-      go : (o : Option Character) → Found (length text) (p + len) 1 (past (λ v. true) (p + len) o) → ((c : ℕ) → p + (len + c) ≤ length text → Position.skip text n (p + (len + c)) ≡ Pest.advance p (Pest.skipped n (drop (p + (len + c)) text) (len + c)))
+      go : (o : Option Character) → Found (length text) (p + len) 1 (past (λ v. true) (p + len) o)
+          → ((c : ℕ) → p + (len + c) ≤ length text
+          → Position.skip text n (p + (len + c)) ≡ Pest.advance p (Pest.skipped n (drop (p + (len + c)) text) (len + c)))
           → elim (past (λ v. true) (p + len) o) as (λ y. Option ℕ) [ None ↦ None | Some q ↦ Position.skip text n q ]
           ≡ Pest.advance p (elim o as (λ y. Option ℕ) [ None ↦ None | Some c ↦ Pest.skipped n (drop c.size (drop (p + len) text)) (len + c.size) ])
       go None f ih = refl
       go (Some c) (found q f) ih =
           let e : p + (len + c.size) ≡ p + len + c.size = omega arith in
           let h : p + (len + c.size) ≤ length text = omega (arith, f.fits) in
-          ap (Position.skip text n) (sym e) ∙ ih c.size h ∙ ap (λ (x : List ℕ). Pest.advance p (Pest.skipped n x (len + c.size))) (ap (λ (m : ℕ). drop m text) e ∙ sym (drop-drop c.size (p + len) text))
+          ap (Position.skip text n) (sym e) ∙ ih c.size h
+              ∙ ap (λ (x : List ℕ). Pest.advance p (Pest.skipped n x (len + c.size))) (ap (λ (m : ℕ). drop m text) e
+              ∙ sym (drop-drop c.size (p + len) text))
 
   pub skip_same : (n p : ℕ) → p ≤ length text → Position.skip text n p ≡ Pest.skip text n p
-  skip_same n p h = subst (λ (m : ℕ). Position.skip text n m ≡ Pest.advance p (Pest.skipped n (drop m text) 0)) (add-zero p) (skip_from n p 0 (omega arith))
+  skip_same n p h = subst (λ (m : ℕ). Position.skip text n m ≡ Pest.advance p (Pest.skipped n (drop m text) 0)) (add-zero p)
+      (skip_from n p 0 (omega arith))
 
   -- ── entries ──
   pub entries_same : (vs : List Span) (p : ℕ) → Reading.after_entries text vs p ≡ Pest.all_match text vs p
   entries_same [] p = refl
   entries_same (v ∷ vs) p =
-      subst (λ (y : Option ℕ). ◌≡◌ {A = Option ℕ} (Reading.after_entries text (v ∷ vs) p) (elim y [ None ↦ None | Some q ↦ Pest.all_match text vs q ]))
+      subst (λ (y : Option ℕ). ◌≡◌ {A = Option ℕ} (Reading.after_entries text (v ∷ vs) p) (elim y
+          [ None ↦ None | Some q ↦ Pest.all_match text vs q ]))
       (string_same (Pest.as_str text v) p) (go (Reading.after_entry text v p) (entries_same vs))
     where
       go : (x : Option ℕ) → ((q : ℕ) → Reading.after_entries text vs q ≡ Pest.all_match text vs q)
-          → ◌≡◌ {A = Option ℕ} (elim x [ None ↦ None | Some q ↦ Reading.after_entries text vs q ]) (elim x [ None ↦ None | Some q ↦ Pest.all_match text vs q ])
+          → ◌≡◌ {A = Option ℕ} (elim x [ None ↦ None | Some q ↦ Reading.after_entries text vs q ]) (elim x
+              [ None ↦ None | Some q ↦ Pest.all_match text vs q ])
       go None ih = refl
       go (Some q) ih = ih q
 

@@ -52,7 +52,8 @@ still_mono s t h n =
     let a : ℕ = natural n.a in
     let b : ℕ = natural n.b in
     each_at (still_rows (eqb a 0) (eqb b 0) (s a) (s b)) (still_rows (eqb a 0) (eqb b 0) (t a) (t b))
-    (same, (same, (same, (same, (same, (and_mono (s a) (s b) (h a) (h b), (or_mono (s a) (s b) (h a) (h b), (h b, (h a, (same, (same, (same, (h a, (h a, (same, (same, (same, (h a, (same, (h a, tt))))))))))))))))))))
+    (same, (same, (same, (same, (same, (and_mono (s a) (s b) (h a) (h b),
+        (or_mono (s a) (s b) (h a) (h b), (h b, (h a, (same, (same, (same, (h a, (h a, (same, (same, (same, (h a, (same, (h a, tt))))))))))))))))))))
     (natural n.kind - 1)
 
 -- ── Rounds, step by step ──
@@ -200,7 +201,8 @@ data Change (f f' : List Bool) : Type 0 where
 raised_change : (ns : List ℤ) (i : ℕ) (f : List Bool) → Change f (raised ns i f)
 raised_change ns i f = go (get_or f i false) refl (stands_still (flag f) (node_at ns (suc i))) refl (dec_lt i (length f))
   where
-    go : (x : Bool) → get_or f i false ≡ x → (y : Bool) → stands_still (flag f) (node_at ns (suc i)) ≡ y → Dec (i < length f) → Change f (raised ns i f)
+    go : (x : Bool) → get_or f i false ≡ x → (y : Bool) → stands_still (flag f) (node_at ns (suc i)) ≡ y → Dec (i < length f)
+        → Change f (raised ns i f)
     go true e y g w = same_flags (sym (raised_flagged ns i f e))
     go false e false g w = same_flags (sym (raised_no ns i f e g))
     go false e true g (yes w) = more (rw (← raised_yes ns i f g) (omega (arith, count_set f i w e)))
@@ -235,7 +237,8 @@ fixed_lines ns (suc n) f e i h = go (fixed_last ns n f e) (fixed_lines ns n f) (
     go p r (yes q) = rw q p.1
     go p r (no q) = r p.0 i (omega arith)
 
-fixed_closed : (ns : List ℤ) (m : ℕ) (f : List Bool) → length f ≡ m → swept ns m f ≡ f → (i : ℕ) → i < m → stands_still (flag f) (node_at ns (suc i)) ≡ true → get_or f i false ≡ true
+fixed_closed : (ns : List ℤ) (m : ℕ) (f : List Bool) → length f ≡ m → swept ns m f ≡ f → (i : ℕ) → i < m
+    → stands_still (flag f) (node_at ns (suc i)) ≡ true → get_or f i false ≡ true
 fixed_closed ns m f k e i h s =
     let w : i < length f = omega arith in
     sym (ap (λ (g : List Bool). get_or g i false) (raised_yes ns i f s ∙ fixed_lines ns m f e i h)) ∙ get_or-set_same f i true false w
@@ -255,7 +258,8 @@ stage ns m (suc r) = go (stage ns m r) (swept_change ns m (rounds ns m r))
     go (grown g) (same_flags e) = done (ap (swept ns m) e)
     go (grown g) (more p) = grown (omega arith)
 
-rounds_closed : (ns : List ℤ) (m i : ℕ) → i < m → stands_still (flag (rounds ns m m)) (node_at ns (suc i)) ≡ true → get_or (rounds ns m m) i false ≡ true
+rounds_closed : (ns : List ℤ) (m i : ℕ) → i < m → stands_still (flag (rounds ns m m)) (node_at ns (suc i)) ≡ true
+    → get_or (rounds ns m m) i false ≡ true
 rounds_closed ns m i h s = go (stage ns m m)
   where
     go : Stage ns m m → get_or (rounds ns m m) i false ≡ true
@@ -299,7 +303,8 @@ nullable_is ns l lo hi = go (nullable ns l) (stands_still (nullable ns) (node_at
 
     both_closed : Closed ns both
     both_closed k lo hi e =
-        let s : stands_still (nullable ns) (node_at ns k) ≡ true = still_mono both (nullable ns) (λ j. right (stands_still (nullable ns) (node_at ns j)) (nullable ns j)) (node_at ns k) e in
+        let s : stands_still (nullable ns) (node_at ns k) ≡ true =
+                still_mono both (nullable ns) (λ j. right (stands_still (nullable ns) (node_at ns j)) (nullable ns j)) (node_at ns k) e in
         join (stands_still (nullable ns) (node_at ns k)) (nullable ns k) s (nullable_closed ns k lo hi s)
 
     under : nullable ns l ≡ true → stands_still (nullable ns) (node_at ns l) ≡ true

@@ -115,7 +115,8 @@ size_grown {f} {g} a = a.same (count f) (omega arith) ∙ ap size (cut_all (coun
 pub truncate_queue : (pre : List QueueableToken) (n : ℕ) {f g : Forest} → Grows f g
     → take (length (pre ++ queue_from n f)) (pre ++ queue_from n g) ≡ pre ++ queue_from n (cut (count f) g)
 truncate_queue pre n {f} {g} a =
-    let i : length (pre ++ queue_from n f) ≡ length pre + size (cut (count f) g) = omega (arith, length-append pre (queue_from n f), length_queue n f, size_grown a) in
+    let i : length (pre ++ queue_from n f) ≡ length pre + size (cut (count f) g) =
+            omega (arith, length-append pre (queue_from n f), length_queue n f, size_grown a) in
     rw (i, take-append-add pre (queue_from n g) (size (cut (count f) g)), take_queue n (count f) g)
 
 -- ── tag_node ──
@@ -144,20 +145,24 @@ last_out P Q S C E = simp append_assoc
 
 tag_last_of : (u : ℕ) (P Q : List QueueableToken) (S : QueueableToken) (C : List QueueableToken) (s r t p : ℕ)
     → Pest.tag_last u (P ++ (Q ++ (S ∷ (C ++ (End s r t p ∷ []))))) ≡ P ++ (Q ++ (S ∷ (C ++ (End s r u p ∷ []))))
-tag_last_of u P Q S C s r t p = ap (Pest.tag_last u) (last_out P Q S C (End s r t p)) ∙ tag_at_end u (P ++ (Q ++ (S ∷ C))) s r t p ∙ sym (last_out P Q S C (End s r u p))
+tag_last_of u P Q S C s r t p = ap (Pest.tag_last u) (last_out P Q S C (End s r t p)) ∙ tag_at_end u (P ++ (Q ++ (S ∷ C))) s r t p
+    ∙ sym (last_out P Q S C (End s r u p))
 
 pub tag_queue : (u : ℕ) (o : Open) (n : ℕ) (f : Forest) → Pest.tag_last u (prefix o ++ queue_from n f) ≡ prefix o ++ queue_from n (tag_last u f)
 tag_queue u top n empty = refl
 tag_queue u (inside o b g p) n empty = rw append-nil (tag_at_start u (prefix o ++ queue_from b g) 0 p)
-tag_queue u o n (add f r t s e c) = tag_last_of u (prefix o) (queue_from n f) (Start (n + size f + suc (size c)) s) (queue_from (suc (n + size f)) c) (n + size f) r t e
+tag_queue u o n (add f r t s e c) = tag_last_of u (prefix o) (queue_from n f) (Start (n + size f + suc (size c)) s)
+    (queue_from (suc (n + size f)) c) (n + size f) r t e
 
 -- ── rule ──
 pub length_prefix : (o : Open) (n : ℕ) (f : Forest) (p : ℕ) → n ≡ length (prefix o) → suc (n + size f) ≡ length (prefix (inside o n f p))
-length_prefix o n f p h = omega (arith, length-append (prefix o ++ queue_from n f) (Start 0 p ∷ []), length-append (prefix o) (queue_from n f), length_queue n f)
+length_prefix o n f p h = omega (arith, length-append (prefix o ++ queue_from n f) (Start 0 p ∷ []),
+    length-append (prefix o) (queue_from n f), length_queue n f)
 
 -- `queue[index]` with-ended and End pushed: one pair more
 close_list : (Q C : List QueueableToken) (N p r e : ℕ)
-    → set ((Q ++ (Start 0 p ∷ [])) ++ C) (length Q) (with_end N (get_or ((Q ++ (Start 0 p ∷ [])) ++ C) (length Q) (Start 0 0))) ++ (End (length Q) r 0 e ∷ [])
+    → set ((Q ++ (Start 0 p ∷ [])) ++ C) (length Q) (with_end N (get_or ((Q ++ (Start 0 p ∷ [])) ++ C) (length Q) (Start 0 0)))
+        ++ (End (length Q) r 0 e ∷ [])
     ≡ Q ++ (Start N p ∷ (C ++ (End (length Q) r 0 e ∷ [])))
 close_list Q C N p r e =
     rw (append_assoc Q (Start 0 p ∷ []) C, get_or_at Q (Start 0 p) C (Start 0 0) (length Q) refl, set_at Q (Start 0 p) C (Start N p) (length Q) refl)
@@ -170,7 +175,8 @@ pub close_queue : (o : Open) (n : ℕ) (f : Forest) (p r e : ℕ) (c : Forest) �
     ++ (End (length (prefix o ++ queue_from n f)) r 0 e ∷ [])
     ≡ prefix o ++ queue_from n (add f r 0 p e c)
 close_queue o n f p r e c h =
-    close_list (prefix o ++ queue_from n f) (queue_from (suc (n + size f)) c) (length (prefix (inside o n f p) ++ queue_from (suc (n + size f)) c)) p r e
+    close_list (prefix o ++ queue_from n f) (queue_from (suc (n + size f)) c)
+        (length (prefix (inside o n f p) ++ queue_from (suc (n + size f)) c)) p r e
     ∙ ap₂ (λ (i j : ℕ). (prefix o ++ queue_from n f) ++ (Start j p ∷ (queue_from (suc (n + size f)) c ++ (End i r 0 e ∷ [])))) l w
     ∙ append_assoc (prefix o) (queue_from n f) _
   where
@@ -178,8 +184,11 @@ close_queue o n f p r e c h =
     l = omega (arith, length-append (prefix o) (queue_from n f), length_queue n f)
 
     w : length (prefix (inside o n f p) ++ queue_from (suc (n + size f)) c) ≡ n + size f + suc (size c)
-    w = omega (arith, length-append (prefix (inside o n f p)) (queue_from (suc (n + size f)) c), length_prefix o n f p h, length_queue (suc (n + size f)) c)
+    w = omega (arith, length-append (prefix (inside o n f p)) (queue_from (suc (n + size f)) c), length_prefix o n f p h,
+        length_queue (suc (n + size f)) c)
 
 -- the queue cut back to before a rule's Start
-pub drop_rule : (o : Open) (n : ℕ) (f : Forest) (p : ℕ) (c : List QueueableToken) → take (length (prefix o ++ queue_from n f)) (prefix (inside o n f p) ++ c) ≡ prefix o ++ queue_from n f
-drop_rule o n f p c = ap (take (length (prefix o ++ queue_from n f))) (append_assoc (prefix o ++ queue_from n f) (Start 0 p ∷ []) c) ∙ take_at (prefix o ++ queue_from n f) (Start 0 p ∷ c) _ refl
+pub drop_rule : (o : Open) (n : ℕ) (f : Forest) (p : ℕ) (c : List QueueableToken)
+    → take (length (prefix o ++ queue_from n f)) (prefix (inside o n f p) ++ c) ≡ prefix o ++ queue_from n f
+drop_rule o n f p c = ap (take (length (prefix o ++ queue_from n f))) (append_assoc (prefix o ++ queue_from n f) (Start 0 p ∷ []) c)
+    ∙ take_at (prefix o ++ queue_from n f) (Start 0 p ∷ c) _ refl

@@ -28,7 +28,8 @@ use Rattle.reading.proofs.Rounds.{ending_alike}
 use Rattle.reading.proofs.Agree.{initial_fit, run_sim, alike, agree_at, Runs}
 use Rattle.reading.proofs.CharacterLaws.{characters_split}
 use Rattle.reading.proofs.Recognition.{PlainRules, Recognised, matched, no_cause, ford_at, ford_parsed, ford_failed}
-use Rattle.reading.proofs.Accepted.{Accepted, RuleLine, Started, started, rule_still, rule_still_is, tree_literals, body_literals, tree_calls, body_calls, tree_steady, body_steady, body_closed, tree_plain, body_plain, body_whole}
+use Rattle.reading.proofs.Accepted.{Accepted, RuleLine, Started, started, rule_still, rule_still_is, tree_literals, body_literals}
+use Rattle.reading.proofs.Accepted.{tree_calls, body_calls, tree_steady, body_steady, body_closed, tree_plain, body_plain, body_whole}
 
 pub tested : (i : Input) → Accepted i.nodes i.literals → Tested (setting i) (rule_still i.nodes)
 tested i a = record {
@@ -59,13 +60,17 @@ module _ (i : Input) (e : refusal i ≡ None) where
 
   -- ── Demand 2: `state` ──
   -- A run that stops for no added reason answers what pest's `state` gives: number, tokens, furthest, sorted rules.
-  pub agree : Runs (reading i) → (spent : ParserState → Ending ParserState) → answer (reading i) ≡ answer_to (Pest.state spent (setting i) i.depth_limit i.call_limit at_root)
+  pub agree : Runs (reading i) → (spent : ParserState → Ending ParserState)
+      → answer (reading i) ≡ answer_to (Pest.state spent (setting i) i.depth_limit i.call_limit at_root)
   unfolding reading
-  agree h spent = agree_at (setting i) (rule_still i.nodes) (tested i g) s.text_whole i.depth_limit i.call_limit at_root root_literals root_steady h spent
+  agree h spent = agree_at (setting i) (rule_still i.nodes) (tested i g) s.text_whole i.depth_limit i.call_limit at_root root_literals
+      root_steady h spent
 
   -- No loop of pest's uses up its rounds, stops included: whatever stands for that, a run's ending is the same.
-  pub loops_alike : (spent other : ParserState → Ending ParserState) → Pest.ending spent (setting i) i.depth_limit i.call_limit at_root ≡ Pest.ending other (setting i) i.depth_limit i.call_limit at_root
-  loops_alike spent other = ending_alike (setting i) (rule_still i.nodes) (tested i g) spent other s.text_whole i.depth_limit i.call_limit at_root root_literals root_steady
+  pub loops_alike : (spent other : ParserState → Ending ParserState) → Pest.ending spent (setting i) i.depth_limit i.call_limit at_root
+      ≡ Pest.ending other (setting i) i.depth_limit i.call_limit at_root
+  loops_alike spent other = ending_alike (setting i) (rule_still i.nodes) (tested i g) spent other s.text_whole i.depth_limit i.call_limit
+      at_root root_literals root_steady
 
   -- Every run, stops included, and pest that has document 01's bounds.
   pub run_alike : answer (reading i) ≡ pest_answer (Pest.eval (setting i) true i.depth_limit at_root (Pest.new i.call_limit))
@@ -92,16 +97,19 @@ module _ (i : Input) (e : refusal i ≡ None) where
   unfolding reading
   run_bounded =
       go _ _ (run_sim (setting i) (rule_still i.nodes) (tested i g) s.text_whole i.depth_limit i.call_limit at_root root_literals root_steady)
-      (eval_keeps (setting i) (rule_still i.nodes) (tested i g) i.depth_limit at_root root_literals root_steady (Pest.new i.call_limit) (initial_fit (setting i) i.call_limit s.text_whole))
+      (eval_keeps (setting i) (rule_still i.nodes) (tested i g) i.depth_limit at_root root_literals root_steady (Pest.new i.call_limit)
+          (initial_fit (setting i) i.call_limit s.text_whole))
     where
-      go : (r : Ending State) (m : Ending ParserState) {b : Bool} {q : ℕ} {l l' : Lookahead} {a a' : Atomicity} {f : Forest} {marks n : ℕ} → Sim top [] l' a' f r m → Keeps (setting i) b q l a marks n m → Within i r
+      go : (r : Ending State) (m : Ending ParserState) {b : Bool} {q : ℕ} {l l' : Lookahead} {a a' : Atomicity} {f : Forest} {marks n : ℕ}
+          → Sim top [] l' a' f r m → Keeps (setting i) b q l a marks n m → Within i r
       go r m (sim_ok t p j k) (keeps_ok n w x) = bounded_ok t (bounded_of t p j.base w.fit)
       go r m (sim_err t p j k) (keeps_err n w) = bounded_err t (bounded_of t p j.base w.fit)
       go r m (sim_stop c) w = bounded_stop c
 
   -- ── Demand 2: Ford ──
   -- Where a run ended Ok, the text's characters are those before its position and those after it.
-  pub split_text : (t : State) → reading i ≡ Ok t → characters_of i.text ≡ characters_of (take t.position i.text) ++ characters_of (drop t.position i.text)
+  pub split_text : (t : State) → reading i ≡ Ok t
+      → characters_of i.text ≡ characters_of (take t.position i.text) ++ characters_of (drop t.position i.text)
   split_text t q = go (subst (Within i) q run_bounded)
     where
       go : Within i (Ok t) → characters_of i.text ≡ characters_of (take t.position i.text) ++ characters_of (drop t.position i.text)
@@ -122,7 +130,8 @@ module _ (i : Input) (e : refusal i ≡ None) where
         (tree_plain i.nodes i.literals g p (line_count i.nodes)) (tree_calls i.nodes i.literals g (line_count i.nodes)) root_literals root_steady o h
 
     -- "a run gives 0 only where Ford's relation consumes a prefix of the text"
-    pub ford_0 : (answer (reading i)).number ≡ 0 → (y : List ℕ) × Ford (rules_of (setting i)) (peg at_root) (characters_of i.text) (Some y) × ((c : List ℕ) × (characters_of i.text ≡ c ++ y))
+    pub ford_0 : (answer (reading i)).number ≡ 0 → (y : List ℕ) × Ford (rules_of (setting i)) (peg at_root) (characters_of i.text) (Some y)
+        × ((c : List ℕ) × (characters_of i.text ≡ c ++ y))
     unfolding reading
     ford_0 q = ford_parsed (setting i) (rule_still i.nodes) (tested i g) (RuleLine i.nodes) rules s.text_whole i.depth_limit i.call_limit at_root
         (tree_plain i.nodes i.literals g p (line_count i.nodes)) (tree_calls i.nodes i.literals g (line_count i.nodes)) root_literals root_steady q
@@ -134,6 +143,8 @@ module _ (i : Input) (e : refusal i ≡ None) where
         (tree_plain i.nodes i.literals g p (line_count i.nodes)) (tree_calls i.nodes i.literals g (line_count i.nodes)) root_literals root_steady q
 
     -- What Ford's relation leaves is the text from the position on at which the reading ended.
-    pub left_over : (answer (reading i)).number ≡ 0 → (t : State) → reading i ≡ Ok t → Ford (rules_of (setting i)) (peg at_root) (characters_of i.text) (Some (characters_of (drop t.position i.text)))
+    pub left_over : (answer (reading i)).number ≡ 0 → (t : State) → reading i ≡ Ok t
+        → Ford (rules_of (setting i)) (peg at_root) (characters_of i.text) (Some (characters_of (drop t.position i.text)))
     left_over q t r = ford (Some (characters_of (drop t.position i.text)))
-        (subst (λ (x : Ending State). Recognised (setting i) x (Some (characters_of (drop t.position i.text)))) (sym r) (matched t (no_cause t (ap (λ (x : Ending State). (answer x).number) (sym r) ∙ q))))
+        (subst (λ (x : Ending State). Recognised (setting i) x (Some (characters_of (drop t.position i.text)))) (sym r)
+            (matched t (no_cause t (ap (λ (x : Ending State). (answer x).number) (sym r) ∙ q))))

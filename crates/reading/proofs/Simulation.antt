@@ -29,9 +29,11 @@ use Rattle.reading.specs.Pest.{ParserState, QueueableToken, CallLimit, CallLimit
 use Rattle.reading.proofs.Trees.{Literals, still, Steady}
 use Rattle.reading.proofs.Matchers.{string_same, folded_same, range_same, skip_same, entries_same, index_same, end_same, slice_same}
 use Rattle.reading.proofs.StackLaws.{Stk, Inv, pest, inv_push, inv_snapshot, inv_pop, inv_restore, inv_clear, Popped, Restored, Cleared}
-use Rattle.reading.proofs.QueueLaws.{Open, inside, prefix, queue_from, length_queue, Grows, grows_refl, grows_trans, grows_add, grows_tag, grows_cut, truncate_queue, tag_queue, length_prefix, close_queue, drop_rule}
+use Rattle.reading.proofs.QueueLaws.{Open, inside, prefix, queue_from, length_queue, Grows, grows_refl, grows_trans, grows_add, grows_tag}
+use Rattle.reading.proofs.QueueLaws.{grows_cut, truncate_queue, tag_queue, length_prefix, close_queue, drop_rule}
 use Rattle.reading.specs.Fit.{Fit}
-use Rattle.reading.proofs.Invariant.{keeps_ok, keeps_err, Keeping, KeepsFrom, Tested, checkpoint_fit, pushed_fit, toggled, toggled_back, level_keeps, eval_keeps, refused_keeps}
+use Rattle.reading.proofs.Invariant.{keeps_ok, keeps_err, Keeping, KeepsFrom, Tested, checkpoint_fit, pushed_fit, toggled, toggled_back}
+use Rattle.reading.proofs.Invariant.{level_keeps, eval_keeps, refused_keeps}
 
 -- ── The relation ──
 abbrev budget : (limit counted : ℕ) → Option CallLimit
@@ -80,26 +82,31 @@ module _ (g : Setting) where
   abbrev pub Preserves : (State → Ending State) → (ParserState → Ending ParserState) → Type 0
   Preserves r m = (o : Open) (ss : List Stk) (p : Stk) (s : State) → Good o ss p s → Fit g (pest_of o p s) → SimFrom o ss s (r s) (m (pest_of o p s))
 
-  ok_by : {o : Open} {ss : List Stk} {l : Lookahead} {a : Atomicity} {f : Forest} (s : State) (p : Stk) (m : ParserState) → m ≡ pest_of o p s → Good o ss p s → Kept l a f s → Sim o ss l a f (Ok s) (Ok m)
+  ok_by : {o : Open} {ss : List Stk} {l : Lookahead} {a : Atomicity} {f : Forest} (s : State) (p : Stk) (m : ParserState)
+      → m ≡ pest_of o p s → Good o ss p s → Kept l a f s → Sim o ss l a f (Ok s) (Ok m)
   ok_by s p m e k h = rw e (sim_ok s p k h)
 
-  err_by : {o : Open} {ss : List Stk} {l : Lookahead} {a : Atomicity} {f : Forest} (s : State) (p : Stk) (m : ParserState) → m ≡ pest_of o p s → Good o ss p s → Kept l a f s → Sim o ss l a f (Err s) (Err m)
+  err_by : {o : Open} {ss : List Stk} {l : Lookahead} {a : Atomicity} {f : Forest} (s : State) (p : Stk) (m : ParserState)
+      → m ≡ pest_of o p s → Good o ss p s → Kept l a f s → Sim o ss l a f (Err s) (Err m)
   err_by s p m e k h = rw e (sim_err s p k h)
 
   kept_self : (s : State) → Kept s.lookahead s.atomicity s.siblings s
   kept_self s = record { look = refl; atom = refl; grown = grows_refl s.siblings }
 
-  kept_trans : {l : Lookahead} {a : Atomicity} {f : Forest} {s : State} → Kept l a f s → {t : State} → Kept s.lookahead s.atomicity s.siblings t → Kept l a f t
+  kept_trans : {l : Lookahead} {a : Atomicity} {f : Forest} {s : State} → Kept l a f s → {t : State}
+      → Kept s.lookahead s.atomicity s.siblings t → Kept l a f t
   kept_trans k h = record { look = h.look ∙ k.look; atom = h.atom ∙ k.atom; grown = grows_trans k.grown h.grown }
 
   -- A later evaluation's ending, seen from an earlier state.
-  from_earlier : {o : Open} {ss : List Stk} {l : Lookahead} {a : Atomicity} {f : Forest} {s : State} → Kept l a f s → (r : Ending State) (m : Ending ParserState) → SimFrom o ss s r m → Sim o ss l a f r m
+  from_earlier : {o : Open} {ss : List Stk} {l : Lookahead} {a : Atomicity} {f : Forest} {s : State} → Kept l a f s
+      → (r : Ending State) (m : Ending ParserState) → SimFrom o ss s r m → Sim o ss l a f r m
   from_earlier k r m (sim_ok t p i h) = sim_ok t p i (kept_trans k h)
   from_earlier k r m (sim_err t p i h) = sim_err t p i (kept_trans k h)
   from_earlier k r m (sim_stop c) = sim_stop c
 
   -- Where both sides stop, or neither.
-  both_stop : {o : Open} {ss : List Stk} {l : Lookahead} {a : Atomicity} {f : Forest} (c : Cause) (x : Ending State) (y : Ending ParserState) (b : Bool)
+  both_stop : {o : Open} {ss : List Stk} {l : Lookahead} {a : Atomicity} {f : Forest} (c : Cause) (x : Ending State)
+      (y : Ending ParserState) (b : Bool)
       → Sim o ss l a f x y → Sim o ss l a f (stop_if b c (λ _. x)) (stop_if b c (λ _. y))
   both_stop c x y true h = sim_stop c
   both_stop c x y false h = h
@@ -109,7 +116,8 @@ module _ (g : Setting) where
       → Preserves (λ s. on_ok (r₁ s) (λ t. r₂ t)) (λ m. on_ok (m₁ m) (λ n. m₂ n))
   and_sim {b} r₁ r₂ m₁ m₂ h₁ h₂ k₁ o ss p s i v = go (r₁ s) (m₁ (pest_of o p s)) (h₁ o ss p s i v) (k₁ (pest_of o p s) v)
     where
-      go : (r : Ending State) (m : Ending ParserState) → SimFrom o ss s r m → KeepsFrom g b (pest_of o p s) m → SimFrom o ss s (on_ok r (λ t. r₂ t)) (on_ok m (λ n. m₂ n))
+      go : (r : Ending State) (m : Ending ParserState) → SimFrom o ss s r m → KeepsFrom g b (pest_of o p s) m
+          → SimFrom o ss s (on_ok r (λ t. r₂ t)) (on_ok m (λ n. m₂ n))
       go r m (sim_ok t q j k) (keeps_ok n w d) = from_earlier k (r₂ t) (m₂ (pest_of o q t)) (h₂ o ss q t j w.fit)
       go r m (sim_err t q j k) w = sim_err t q j k
       go r m (sim_stop c) w = sim_stop c
@@ -118,13 +126,15 @@ module _ (g : Setting) where
       → Preserves (λ s. on_err (r₁ s) (λ t. r₂ t)) (λ m. on_err (m₁ m) (λ n. m₂ n))
   or_sim {b} r₁ r₂ m₁ m₂ h₁ h₂ k₁ o ss p s i v = go (r₁ s) (m₁ (pest_of o p s)) (h₁ o ss p s i v) (k₁ (pest_of o p s) v)
     where
-      go : (r : Ending State) (m : Ending ParserState) → SimFrom o ss s r m → KeepsFrom g b (pest_of o p s) m → SimFrom o ss s (on_err r (λ t. r₂ t)) (on_err m (λ n. m₂ n))
+      go : (r : Ending State) (m : Ending ParserState) → SimFrom o ss s r m → KeepsFrom g b (pest_of o p s) m
+          → SimFrom o ss s (on_err r (λ t. r₂ t)) (on_err m (λ n. m₂ n))
       go r m (sim_ok t q j k) w = sim_ok t q j k
       go r m (sim_err t q j k) (keeps_err n w) = from_earlier k (r₂ t) (m₂ (pest_of o q t)) (h₂ o ss q t j w.fit)
       go r m (sim_stop c) w = sim_stop c
 
   -- ── Kinds 1 to 5: a move, or none ──
-  moved_both : (x : Option ℕ) (o : Open) (ss : List Stk) (p : Stk) (s : State) → Good o ss p s → SimFrom o ss s (Reading.moved x s) (Pest.moved x (pest_of o p s))
+  moved_both : (x : Option ℕ) (o : Open) (ss : List Stk) (p : Stk) (s : State) → Good o ss p s
+      → SimFrom o ss s (Reading.moved x s) (Pest.moved x (pest_of o p s))
   moved_both None o ss p s i = sim_err s p i (kept_self s)
   moved_both (Some n) o ss p s i = sim_ok (Reading.at_position n s) p (record { base = i.base; inv = i.inv }) (kept_self (Reading.at_position n s))
 
@@ -146,7 +156,8 @@ data EnterSim : Reading.Entry → Entered → Type 0 where
   out_both : (t : Tracker) → EnterSim (Reading.refused t) (record { answer = false; tracker = tracker_of t })
 
 enter_sim : (limit n : ℕ) (c : Option LimitKind) (room counts : Bool)
-    → EnterSim (Reading.enter room counts (record { limit = limit; counted = n; cause = c })) (Pest.enter room counts (tracker_of (record { limit = limit; counted = n; cause = c })))
+    → EnterSim (Reading.enter room counts (record { limit = limit; counted = n; cause = c }))
+        (Pest.enter room counts (tracker_of (record { limit = limit; counted = n; cause = c })))
 enter_sim limit n (Some x) room counts = out_both (record { limit = limit; counted = n; cause = Some x })
 enter_sim zero n None true true = in_both (record { limit = 0; counted = suc n; cause = None })
 enter_sim zero n None false true = out_both (record { limit = 0; counted = n; cause = Some LimitKind.Stack })
@@ -172,13 +183,15 @@ module _ (g : Setting) where
       go : (e : Reading.Entry) (x : Entered) → EnterSim e x
           → SimFrom o ss s
           (elim e [ Reading.refused t ↦ Err (Reading.with_tracker t s) | Reading.entered t ↦ k (Reading.with_tracker t s) ])
-          (elim x.answer [ false ↦ Err (Pest.set_call_tracker x.tracker (pest_of o p s)) | true ↦ mk (Pest.set_call_tracker x.tracker (pest_of o p s)) ])
+          (elim x.answer [ false ↦ Err (Pest.set_call_tracker x.tracker (pest_of o p s))
+              | true ↦ mk (Pest.set_call_tracker x.tracker (pest_of o p s)) ])
       go e x (in_both t) = h o ss p (Reading.with_tracker t s) (record { base = i.base; inv = i.inv }) v
       go e x (out_both t) = sim_err (Reading.with_tracker t s) p (record { base = i.base; inv = i.inv }) (kept_self g (Reading.with_tracker t s))
 
   -- ── Kinds 9 and 18 ──
   -- A checkpoint dropped, after Ok.
-  dropped_sim : {o : Open} {v : Stk} {ss : List Stk} {l : Lookahead} {a : Atomicity} {f : Forest} (t : State) (q : Stk) → Good o (v ∷ ss) q t → Kept l a f t
+  dropped_sim : {o : Open} {v : Stk} {ss : List Stk} {l : Lookahead} {a : Atomicity} {f : Forest} (t : State) (q : Stk)
+      → Good o (v ∷ ss) q t → Kept l a f t
       → Sim o ss l a f (Ok (Reading.drop_checkpoint t)) (Ok (Pest.checkpoint_ok (pest_of o q t)))
   dropped_sim {o} {v} {ss} t q i k =
       let c : Cleared t.stack ss q t.checkpoints = inv_clear i.inv in
@@ -189,7 +202,8 @@ module _ (g : Setting) where
 
   sequence_sim : (r : State → Ending State) (m : ParserState → Ending ParserState) → Preserves g r m
       → Preserves g (λ s. Reading.sequence_end s (r (Reading.open_checkpoint s))) (λ x. Pest.sequence m x)
-  sequence_sim r m h o ss p s i v = go _ _ (h o (s.stack ∷ ss) p (Reading.open_checkpoint s) (record { base = i.base; inv = inv_snapshot i.inv }) (checkpoint_fit g (pest_of o p s) v))
+  sequence_sim r m h o ss p s i v = go _ _ (h o (s.stack ∷ ss) p (Reading.open_checkpoint s)
+      (record { base = i.base; inv = inv_snapshot i.inv }) (checkpoint_fit g (pest_of o p s) v))
     where
       go : (x : Ending State) (y : Ending ParserState) → SimFrom o (s.stack ∷ ss) s x y
           → SimFrom o ss s (Reading.sequence_end s x) (Pest.sequence_end (length (prefix o ++ queue_from s.outer s.siblings)) s.position y)
@@ -197,19 +211,24 @@ module _ (g : Setting) where
       go x y (sim_err t q j k) =
           let c : Restored t.stack s.stack ss q t.checkpoints = inv_restore j.inv in
           let n : s.outer ≡ t.outer = i.base ∙ sym j.base in
-          let e : take (length (prefix o ++ queue_from s.outer s.siblings)) (prefix o ++ queue_from t.outer t.siblings) ≡ prefix o ++ queue_from t.outer (cut (count s.siblings) t.siblings) = rw n (truncate_queue (prefix o) t.outer k.grown) in
+          let e : take (length (prefix o ++ queue_from s.outer s.siblings)) (prefix o ++ queue_from t.outer t.siblings)
+                  ≡ prefix o ++ queue_from t.outer (cut (count s.siblings) t.siblings) = rw n (truncate_queue (prefix o) t.outer k.grown) in
           err_by g
-          (Reading.restore_stack s.stack (Reading.at_position s.position (Reading.with_siblings (cut (count s.siblings) t.siblings) t.outer t))) c.left _
-          (ap₂ (λ (v : Pest.Stack) (l : List QueueableToken). Pest.set_stack v (Pest.set_queue l (Pest.set_position s.position (pest_of o q t)))) c.same e)
+          (Reading.restore_stack s.stack (Reading.at_position s.position
+              (Reading.with_siblings (cut (count s.siblings) t.siblings) t.outer t))) c.left _
+          (ap₂ (λ (v : Pest.Stack) (l : List QueueableToken). Pest.set_stack v
+              (Pest.set_queue l (Pest.set_position s.position (pest_of o q t)))) c.same e)
           (record { base = j.base; inv = c.inv })
           (record { look = k.look; atom = k.atom; grown = grows_cut k.grown })
       go x y (sim_stop c) = sim_stop c
 
   restore_sim : (r : State → Ending State) (m : ParserState → Ending ParserState) → Preserves g r m
       → Preserves g (λ s. Reading.restore_end s (r (Reading.open_checkpoint s))) (λ x. Pest.restore_on_err m x)
-  restore_sim r m h o ss p s i v = go _ _ (h o (s.stack ∷ ss) p (Reading.open_checkpoint s) (record { base = i.base; inv = inv_snapshot i.inv }) (checkpoint_fit g (pest_of o p s) v))
+  restore_sim r m h o ss p s i v = go _ _ (h o (s.stack ∷ ss) p (Reading.open_checkpoint s)
+      (record { base = i.base; inv = inv_snapshot i.inv }) (checkpoint_fit g (pest_of o p s) v))
     where
-      go : (x : Ending State) (y : Ending ParserState) → SimFrom o (s.stack ∷ ss) s x y → SimFrom o ss s (Reading.restore_end s x) (Pest.restore_on_err_end y)
+      go : (x : Ending State) (y : Ending ParserState) → SimFrom o (s.stack ∷ ss) s x y
+          → SimFrom o ss s (Reading.restore_end s x) (Pest.restore_on_err_end y)
       go x y (sim_ok t q j k) = dropped_sim t q j k
       go x y (sim_err t q j k) =
           let c : Restored t.stack s.stack ss q t.checkpoints = inv_restore j.inv in
@@ -240,7 +259,8 @@ module _ (g : Setting) where
   rounds_sim zero r m h k o ss p s i v = sim_err s p i (kept_self g s)
   rounds_sim {b} (suc n) r m h k o ss p s i v = go (rounds_sim n r m h k) (r s) (m (pest_of o p s)) (h o ss p s i v) (k (pest_of o p s) v)
     where
-      go : Preserves g (λ s. Reading.rounds n r s) (λ x. Pest.repeat n m x) → (x : Ending State) (y : Ending ParserState) → SimFrom o ss s x y → KeepsFrom g b (pest_of o p s) y
+      go : Preserves g (λ s. Reading.rounds n r s) (λ x. Pest.repeat n m x) → (x : Ending State) (y : Ending ParserState)
+          → SimFrom o ss s x y → KeepsFrom g b (pest_of o p s) y
           → SimFrom o ss s (Reading.round_end x (λ t. Reading.rounds n r t)) (Pest.round_end y (λ t. Pest.repeat n m t))
       go ih x y (sim_ok t q j k) (keeps_ok u w d) = from_earlier g k _ _ (ih o ss q t j w.fit)
       go ih x y (sim_err t q j k) w = forgiven (Reading.limited t) t q j k
@@ -256,10 +276,12 @@ module _ (g : Setting) where
   lookahead_same false Looks.None = refl
 
   lookahead_sim : (b : Bool) (r : State → Ending State) (m : ParserState → Ending ParserState) → Preserves g r m
-      → Preserves g (λ s. Reading.lookahead_end b s (r (Reading.open_checkpoint (Reading.with_lookahead (Reading.lookahead_in b s.lookahead) s)))) (λ x. Pest.lookahead b m x)
+      → Preserves g (λ s. Reading.lookahead_end b s (r (Reading.open_checkpoint
+          (Reading.with_lookahead (Reading.lookahead_in b s.lookahead) s)))) (λ x. Pest.lookahead b m x)
   lookahead_sim b r m h o ss p s i v =
       rw (← lookahead_same b s.lookahead)
-      (go _ _ (h o (s.stack ∷ ss) p (Reading.open_checkpoint (Reading.with_lookahead (Reading.lookahead_in b s.lookahead) s)) (record { base = i.base; inv = inv_snapshot i.inv })
+      (go _ _ (h o (s.stack ∷ ss) p (Reading.open_checkpoint (Reading.with_lookahead (Reading.lookahead_in b s.lookahead) s))
+          (record { base = i.base; inv = inv_snapshot i.inv })
       (checkpoint_fit g (pest_of o p (Reading.with_lookahead (Reading.lookahead_in b s.lookahead) s)) v)))
     where
       -- Limited or not, positive or not, Ok or Err: the same state on either side.
@@ -284,10 +306,12 @@ module _ (g : Setting) where
           → SimFrom o ss s (Reading.lookahead_end b s x) (Pest.lookahead_end b s.lookahead s.position y)
       go x y (sim_ok t q j k) =
           let c : Restored t.stack s.stack ss q t.checkpoints = inv_restore j.inv in
-          out (Reading.back_to s t) c.left _ (back t q j c) (record { base = j.base; inv = c.inv }) (record { look = refl; atom = k.atom; grown = k.grown }) (Reading.limited t) b
+          out (Reading.back_to s t) c.left _ (back t q j c) (record { base = j.base; inv = c.inv })
+              (record { look = refl; atom = k.atom; grown = k.grown }) (Reading.limited t) b
       go x y (sim_err t q j k) =
           let c : Restored t.stack s.stack ss q t.checkpoints = inv_restore j.inv in
-          swapped (Reading.back_to s t) c.left _ (back t q j c) (record { base = j.base; inv = c.inv }) (record { look = refl; atom = k.atom; grown = k.grown }) (Reading.limited t) b
+          swapped (Reading.back_to s t) c.left _ (back t q j c) (record { base = j.base; inv = c.inv })
+              (record { look = refl; atom = k.atom; grown = k.grown }) (Reading.limited t) b
       go x y (sim_stop c) = sim_stop c
 
   -- ── Kind 13 ──
@@ -298,8 +322,10 @@ module _ (g : Setting) where
     where
       go : (x : Ending State) (y : Ending ParserState) → Sim o ss s.lookahead a s.siblings x y
           → SimFrom o ss s (Reading.atomic_end s x) (Pest.atomic_end (not (Pest.same_atomicity s.atomicity a)) s.atomicity y)
-      go x y (sim_ok t q j k) = ok_by g (Reading.with_atomicity s.atomicity t) q _ (toggled_back g s.atomicity a (pest_of o q t) k.atom) (record { base = j.base; inv = j.inv }) (record { look = k.look; atom = refl; grown = k.grown })
-      go x y (sim_err t q j k) = err_by g (Reading.with_atomicity s.atomicity t) q _ (toggled_back g s.atomicity a (pest_of o q t) k.atom) (record { base = j.base; inv = j.inv }) (record { look = k.look; atom = refl; grown = k.grown })
+      go x y (sim_ok t q j k) = ok_by g (Reading.with_atomicity s.atomicity t) q _ (toggled_back g s.atomicity a (pest_of o q t) k.atom)
+          (record { base = j.base; inv = j.inv }) (record { look = k.look; atom = refl; grown = k.grown })
+      go x y (sim_err t q j k) = err_by g (Reading.with_atomicity s.atomicity t) q _ (toggled_back g s.atomicity a (pest_of o q t) k.atom)
+          (record { base = j.base; inv = j.inv }) (record { look = k.look; atom = refl; grown = k.grown })
       go x y (sim_stop c) = sim_stop c
 
   -- ── Kind 14 ──
@@ -307,9 +333,11 @@ module _ (g : Setting) where
       → Preserves g (λ s. Reading.push_end line s (r s)) (λ x. Pest.stack_push g.text true line m x)
   push_sim line r m h o ss p s i v = go _ _ (h o ss p s i v)
     where
-      go : (x : Ending State) (y : Ending ParserState) → SimFrom o ss s x y → SimFrom o ss s (Reading.push_end line s x) (Pest.push_end g.text true line s.position y)
+      go : (x : Ending State) (y : Ending ParserState) → SimFrom o ss s x y
+          → SimFrom o ss s (Reading.push_end line s x) (Pest.push_end g.text true line s.position y)
       go x y (sim_ok t q j k) = both_stop g (Cause.StackFull line) _ _ (leb most_entries (length t.stack))
-          (sim_ok (Reading.with_stack (record { start = s.position; end = t.position } ∷ t.stack) t.checkpoints t) q (record { base = j.base; inv = inv_push _ j.inv }) (record { look = k.look; atom = k.atom; grown = k.grown }))
+          (sim_ok (Reading.with_stack (record { start = s.position; end = t.position } ∷ t.stack) t.checkpoints t) q
+              (record { base = j.base; inv = inv_push _ j.inv }) (record { look = k.look; atom = k.atom; grown = k.grown }))
       go x y (sim_err t q j k) = sim_err t q j k
       go x y (sim_stop c) = sim_stop c
 
@@ -318,12 +346,15 @@ module _ (g : Setting) where
   popping_sim : (line : ℕ) (x : Span) (rest : Stk) (k : State → Ending State) (mk : ParserState → Ending ParserState)
       (o : Open) (ss : List Stk) (p : Stk) (s : State) → Good o ss p s → s.stack ≡ x ∷ rest
       → ((q : Stk) → Good o ss q (Reading.with_stack rest (Reading.lower_to (length rest) s.checkpoints) s)
-      → SimFrom o ss s (k (Reading.with_stack rest (Reading.lower_to (length rest) s.checkpoints) s)) (mk (pest_of o q (Reading.with_stack rest (Reading.lower_to (length rest) s.checkpoints) s))))
+      → SimFrom o ss s (k (Reading.with_stack rest (Reading.lower_to (length rest) s.checkpoints) s))
+          (mk (pest_of o q (Reading.with_stack rest (Reading.lower_to (length rest) s.checkpoints) s))))
       → SimFrom o ss s (Reading.popping g.text line rest s k) (Pest.popping g.text true line x rest (pest_of o p s) mk)
   popping_sim line x rest k mk o ss p s i e h =
       let c : Popped x rest ss p s.checkpoints = inv_pop x rest (rw e at i.inv) in
-      subst (λ (v : Pest.Stack). SimFrom o ss s (Reading.popping g.text line rest s k) (stop_if (ltb most_debt (debt v.lengths)) (Cause.StackFull line) (λ _. mk (Pest.set_stack v (pest_of o p s))))) (sym c.same)
-      (both_stop g (Cause.StackFull line) _ _ (ltb most_debt (debt (Reading.lower_to (length rest) s.checkpoints))) (h c.left (record { base = i.base; inv = c.inv })))
+      subst (λ (v : Pest.Stack). SimFrom o ss s (Reading.popping g.text line rest s k)
+          (stop_if (ltb most_debt (debt v.lengths)) (Cause.StackFull line) (λ _. mk (Pest.set_stack v (pest_of o p s))))) (sym c.same)
+      (both_stop g (Cause.StackFull line) _ _ (ltb most_debt (debt (Reading.lower_to (length rest) s.checkpoints)))
+          (h c.left (record { base = i.base; inv = c.inv })))
 
   pop_sim : (line : ℕ) → Preserves g (λ s. Reading.popped g.text line s.stack s) (λ m. Pest.stack_pop g.text true line m.stack.cache m)
   pop_sim line o ss p s i v = go s.stack refl
@@ -338,18 +369,21 @@ module _ (g : Setting) where
 
   match_pop_sim : (line : ℕ) (c : Stk) (at : ℕ) (o : Open) (ss : List Stk) (p : Stk) (s : State) → Good o ss p s → s.stack ≡ c
       → SimFrom o ss s (Reading.match_popped g.text line c at s) (Pest.stack_match_pop g.text true line c at (pest_of o p s))
-  match_pop_sim line [] at o ss p s i e = sim_ok (Reading.at_position at s) p (record { base = i.base; inv = i.inv }) (kept_self g (Reading.at_position at s))
+  match_pop_sim line [] at o ss p s i e = sim_ok (Reading.at_position at s) p (record { base = i.base; inv = i.inv })
+      (kept_self g (Reading.at_position at s))
   match_pop_sim line (x ∷ rest) at o ss p s i e =
       popping_sim line x rest
       (λ t. elim (Reading.after_entry g.text x at) [ None ↦ Err t | Some q ↦ Reading.match_popped g.text line rest q t ])
       (λ m. elim (Pest.match_string g.text (Pest.as_str g.text x) at) [ None ↦ Err m | Some q ↦ Pest.stack_match_pop g.text true line rest q m ])
       o ss p s i e
-      (λ q j. rw (← string_same g.text (Pest.as_str g.text x) at) (go q (λ n. match_pop_sim line rest n o ss q u j refl) j (Reading.after_entry g.text x at)))
+      (λ q j. rw (← string_same g.text (Pest.as_str g.text x) at)
+          (go q (λ n. match_pop_sim line rest n o ss q u j refl) j (Reading.after_entry g.text x at)))
     where
       u : State
       u = Reading.with_stack rest (Reading.lower_to (length rest) s.checkpoints) s
 
-      go : (q : Stk) → ((n : ℕ) → SimFrom o ss s (Reading.match_popped g.text line rest n u) (Pest.stack_match_pop g.text true line rest n (pest_of o q u))) → Good o ss q u → (y : Option ℕ)
+      go : (q : Stk) → ((n : ℕ) → SimFrom o ss s (Reading.match_popped g.text line rest n u)
+          (Pest.stack_match_pop g.text true line rest n (pest_of o q u))) → Good o ss q u → (y : Option ℕ)
           → SimFrom o ss s (elim y [ None ↦ Err u | Some n ↦ Reading.match_popped g.text line rest n u ])
           (elim y [ None ↦ Err (pest_of o q u) | Some n ↦ Pest.stack_match_pop g.text true line rest n (pest_of o q u) ])
       go q ih j None = sim_err u q j (kept_self g u)
@@ -357,7 +391,8 @@ module _ (g : Setting) where
 
   -- ── Kind 16 ──
   peek_sim : (i : ℤ) (j : Option ℤ) (d : Bool) → Preserves g (λ s. Reading.peeked g.text i j d s) (λ m. Pest.stack_match_peek_slice g.text i j d m)
-  peek_sim i j d o ss p s k w = subst (λ (x : Option ℕ). SimFrom o ss s (Reading.peeked g.text i j d s) (model x)) (index_same i (length s.stack)) (first (Reading.index_in (length s.stack) i))
+  peek_sim i j d o ss p s k w = subst (λ (x : Option ℕ). SimFrom o ss s (Reading.peeked g.text i j d s) (model x))
+      (index_same i (length s.stack)) (first (Reading.index_in (length s.stack) i))
     where
       m : ParserState
       m = pest_of o p s
@@ -366,15 +401,18 @@ module _ (g : Setting) where
           (elim b [ true ↦ Ok s | false ↦ Reading.moved (Reading.after_entries g.text (Reading.entries a z d s.stack) s.position) s ])
           (elim b [ true ↦ Ok m | false ↦ Pest.moved (Pest.all_match g.text (Pest.slice a z d s.stack) s.position) m ])
       third a z true = sim_ok s p k (kept_self g s)
-      third a z false = rw (← slice_same a z d s.stack, ← entries_same g.text (Reading.entries a z d s.stack) s.position) (moved_both g (Reading.after_entries g.text (Reading.entries a z d s.stack) s.position) o ss p s k)
+      third a z false = rw (← slice_same a z d s.stack, ← entries_same g.text (Reading.entries a z d s.stack) s.position)
+          (moved_both g (Reading.after_entries g.text (Reading.entries a z d s.stack) s.position) o ss p s k)
 
       second : (a : ℕ) (y : Option ℕ) → SimFrom o ss s (elim y [ None ↦ Err s | Some z ↦ Reading.sliced g.text a z d s ])
-          (elim y [ None ↦ Err m | Some z ↦ elim (leb z a) [ true ↦ Ok m | false ↦ Pest.moved (Pest.all_match g.text (Pest.slice a z d s.stack) s.position) m ] ])
+          (elim y [ None ↦ Err m | Some z ↦ elim (leb z a)
+              [ true ↦ Ok m | false ↦ Pest.moved (Pest.all_match g.text (Pest.slice a z d s.stack) s.position) m ] ])
       second a None = sim_err s p k (kept_self g s)
       second a (Some z) = third a z (leb z a)
 
       model_end : ℕ → Option ℕ → Ending ParserState
-      model_end a y = elim y [ None ↦ Err m | Some z ↦ elim (leb z a) [ true ↦ Ok m | false ↦ Pest.moved (Pest.all_match g.text (Pest.slice a z d s.stack) s.position) m ] ]
+      model_end a y = elim y [ None ↦ Err m | Some z ↦ elim (leb z a)
+          [ true ↦ Ok m | false ↦ Pest.moved (Pest.all_match g.text (Pest.slice a z d s.stack) s.position) m ] ]
 
       model : Option ℕ → Ending ParserState
       model x = elim x [ None ↦ Err m | Some a ↦ model_end a (Pest.normalize_end j (length s.stack)) ]
@@ -384,7 +422,8 @@ module _ (g : Setting) where
 
       first : (x : Option ℕ) → SimFrom o ss s (elim x [ None ↦ Err s | Some a ↦ reading_end a (Reading.end_in (length s.stack) j) ]) (model x)
       first None = sim_err s p k (kept_self g s)
-      first (Some a) = subst (λ (y : Option ℕ). SimFrom o ss s (reading_end a (Reading.end_in (length s.stack) j)) (model_end a y)) (end_same j (length s.stack)) (second a (Reading.end_in (length s.stack) j))
+      first (Some a) = subst (λ (y : Option ℕ). SimFrom o ss s (reading_end a (Reading.end_in (length s.stack) j)) (model_end a y))
+          (end_same j (length s.stack)) (second a (Reading.end_in (length s.stack) j))
 
   -- ── Kind 19 ──
   tag_sim : (u : ℕ) → Preserves g (λ s. Reading.tagged u s) (λ m. Pest.tag_node u m)
@@ -414,11 +453,13 @@ module _ (g : Setting) where
       go false e false q = rw (q, e)
 
   cleared_is : (o : Open) (q : Stk) (t : State) (p : ℕ) (n : Note)
-      → Pest.advance_attempts p (Pest.truncate_attempts p n.positives n.negatives (pest_of o q t)) ≡ pest_of o q (Reading.with_attempts (Reading.cleared p n t.attempts) t)
+      → Pest.advance_attempts p (Pest.truncate_attempts p n.positives n.negatives (pest_of o q t))
+          ≡ pest_of o q (Reading.with_attempts (Reading.cleared p n t.attempts) t)
   cleared_is o q t p n = go (eqb p t.attempts.furthest) refl (ltb t.attempts.furthest p) refl
     where
       go : (b : Bool) → eqb p t.attempts.furthest ≡ b → (c : Bool) → ltb t.attempts.furthest p ≡ c
-          → Pest.advance_attempts p (Pest.truncate_attempts p n.positives n.negatives (pest_of o q t)) ≡ pest_of o q (Reading.with_attempts (Reading.cleared p n t.attempts) t)
+          → Pest.advance_attempts p (Pest.truncate_attempts p n.positives n.negatives (pest_of o q t))
+              ≡ pest_of o q (Reading.with_attempts (Reading.cleared p n t.attempts) t)
       go true e c d = rw (e, le-ltb t.attempts.furthest p (omega (arith, eqb-true p t.attempts.furthest e)))
       go false e true d = rw (e, d)
       go false e false d = rw (e, d)
@@ -434,11 +475,14 @@ module _ (g : Setting) where
       go false e c d = rw e
 
   track_is : (o : Open) (q : Stk) (t : State) (r p : ℕ) (n : Note) → is_atomic t.atomicity ≡ false
-      → Pest.track r p n.positives n.negatives n.total (pest_of o q t) ≡ pest_of o q (Reading.with_attempts (Reading.tracked (is_negative t.lookahead) p r n t.attempts) t)
+      → Pest.track r p n.positives n.negatives n.total (pest_of o q t)
+          ≡ pest_of o q (Reading.with_attempts (Reading.tracked (is_negative t.lookahead) p r n t.attempts) t)
   track_is o q t r p n h = rw (h, count_test n.total (Reading.count_at p t.attempts)) (go (eqb (Reading.count_at p t.attempts) (suc n.total)))
     where
-      go : (b : Bool) → (if b then pest_of o q t else Pest.push_attempt r p (Pest.advance_attempts p (Pest.truncate_attempts p n.positives n.negatives (pest_of o q t))))
-          ≡ pest_of o q (Reading.with_attempts (if b then t.attempts else Reading.appended (is_negative t.lookahead) p r (Reading.cleared p n t.attempts)) t)
+      go : (b : Bool) → (if b then pest_of o q t
+          else Pest.push_attempt r p (Pest.advance_attempts p (Pest.truncate_attempts p n.positives n.negatives (pest_of o q t))))
+          ≡ pest_of o q (Reading.with_attempts (if b then t.attempts
+              else Reading.appended (is_negative t.lookahead) p r (Reading.cleared p n t.attempts)) t)
       go true = refl
       go false = ap (Pest.push_attempt r p) (cleared_is o q t p n) ∙ appended_is o q (Reading.with_attempts (Reading.cleared p n t.attempts) t) p r
 
@@ -454,15 +498,18 @@ module _ (g : Setting) where
 
       -- pest's side, where it tracks
       model : ParserState → Ending ParserState
-      model m = stop_if (ltb Reading.most_attempts (length m.pos_attempts) || ltb Reading.most_attempts (length m.neg_attempts)) (Cause.AttemptsFull line) (λ _. mk m)
+      model m = stop_if (ltb Reading.most_attempts (length m.pos_attempts) || ltb Reading.most_attempts (length m.neg_attempts))
+          (Cause.AttemptsFull line) (λ _. mk m)
 
       go : (due x : Bool) → is_atomic t.atomicity ≡ x
-          → Sim X ss l a f (elim (due && not x) [ false ↦ k t | true ↦ stop_if (Reading.attempts_full b) (Cause.AttemptsFull line) (λ _. k (Reading.with_attempts b t)) ])
+          → Sim X ss l a f (elim (due && not x)
+              [ false ↦ k t | true ↦ stop_if (Reading.attempts_full b) (Cause.AttemptsFull line) (λ _. k (Reading.with_attempts b t)) ])
           (elim (due && not x) [ false ↦ mk (pest_of o q t) | true ↦ model (Pest.track r p n.positives n.negatives n.total (pest_of o q t)) ])
       go false x e = h t.attempts
       go true true e = h t.attempts
       go true false e =
-          subst (λ (m : ParserState). Sim X ss l a f (stop_if (Reading.attempts_full b) (Cause.AttemptsFull line) (λ _. k (Reading.with_attempts b t))) (model m)) (sym (track_is o q t r p n e))
+          subst (λ (m : ParserState). Sim X ss l a f (stop_if (Reading.attempts_full b) (Cause.AttemptsFull line) (λ _.
+              k (Reading.with_attempts b t))) (model m)) (sym (track_is o q t r p n e))
           (both_stop g (Cause.AttemptsFull line) _ _ (Reading.attempts_full b) (h b))
 
   -- ── Kind 8 ──
@@ -493,7 +540,8 @@ module _ (g : Setting) where
       m_end : Ending ParserState → Ending ParserState
       m_end y = Pest.rule_end g true line r s.position index n.positives n.negatives n.total y
 
-      produces_as : (o : Open) (q : Stk) {f : Forest} (u : State) → Kept s.lookahead s.atomicity f u → Pest.produces (pest_of o q u) ≡ Reading.recorded s
+      produces_as : (o : Open) (q : Stk) {f : Forest} (u : State) → Kept s.lookahead s.atomicity f u
+          → Pest.produces (pest_of o q u) ≡ Reading.recorded s
       produces_as o q u k = ap₂ (λ (l : Lookahead) (a : Atomicity). is_none l && not (is_atomic a)) k.look k.atom
 
       -- Recorded, Ok: one pair more.
@@ -501,7 +549,8 @@ module _ (g : Setting) where
       patched t = set t.queue index (Pest.with_end (length t.queue) (get_or t.queue index (Pest.Start 0 0)))
 
       closed_queue : (u : State) (q : Stk) → Good o' ss q u
-          → patched (pest_of o' q u) ++ (Pest.End index r 0 u.position ∷ []) ≡ prefix o ++ queue_from s.outer (add s.siblings r 0 s.position u.position u.siblings)
+          → patched (pest_of o' q u) ++ (Pest.End index r 0 u.position ∷ [])
+              ≡ prefix o ++ queue_from s.outer (add s.siblings r 0 s.position u.position u.siblings)
       closed_queue u q j =
           let e : u.outer ≡ suc (s.outer + size s.siblings) = j.base ∙ sym (length_prefix o s.outer s.siblings s.position i.base) in
           rw e (close_queue o s.outer s.siblings s.position r u.position u.siblings i.base)
@@ -510,9 +559,12 @@ module _ (g : Setting) where
           → SimFrom o ss s (Reading.closed g true line r s u) (Pest.close_rule g true line r index (pest_of o' q u))
       closed_sim e u q j k =
           subst (λ (y : Ending ParserState). SimFrom o ss s (Reading.closed g true line r s u) y) (sym close_is)
-          (subst (λ (c : ℕ). SimFrom o ss s (stop_if (leb g.capacity c) (Cause.TokensFull line) (λ _. Ok w)) (stop_if (leb g.capacity (length (patched x))) (Cause.TokensFull line) (λ _. Ok (pushed (patched x ++ (Pest.End index r 0 u.position ∷ [])))))) tokens
+          (subst (λ (c : ℕ). SimFrom o ss s (stop_if (leb g.capacity c) (Cause.TokensFull line) (λ _. Ok w))
+              (stop_if (leb g.capacity (length (patched x))) (Cause.TokensFull line) (λ _.
+              Ok (pushed (patched x ++ (Pest.End index r 0 u.position ∷ [])))))) tokens
           (both_stop g (Cause.TokensFull line) (Ok w) _ (leb g.capacity (length (patched x)))
-          (ok_by g w q _ (ap pushed (closed_queue u q j)) (record { base = i.base; inv = j.inv }) (record { look = k.look; atom = k.atom; grown = grows_add r 0 s.position u.position u.siblings (grows_refl s.siblings) }))))
+          (ok_by g w q _ (ap pushed (closed_queue u q j)) (record { base = i.base; inv = j.inv })
+              (record { look = k.look; atom = k.atom; grown = grows_add r 0 s.position u.position u.siblings (grows_refl s.siblings) }))))
         where
           x : ParserState
           x = pest_of o' q u
@@ -526,8 +578,11 @@ module _ (g : Setting) where
           tokens : length (patched x) ≡ Reading.held u
           tokens = length-set x.queue index _ ∙ held_is o' q u j.base
 
-          close_is : Pest.close_rule g true line r index x ≡ stop_if (leb g.capacity (length (patched x))) (Cause.TokensFull line) (λ _. Ok (pushed (patched x ++ (Pest.End index r 0 u.position ∷ []))))
-          close_is = ap (λ (b : Bool). elim b as (λ _. Ending ParserState) [ false ↦ Ok x | true ↦ stop_if (leb g.capacity (length (patched x))) (Cause.TokensFull line) (λ _. Ok (pushed (patched x ++ (Pest.End index r 0 u.position ∷ [])))) ]) (produces_as o' q u k ∙ e)
+          close_is : Pest.close_rule g true line r index x ≡ stop_if (leb g.capacity (length (patched x))) (Cause.TokensFull line) (λ _.
+              Ok (pushed (patched x ++ (Pest.End index r 0 u.position ∷ []))))
+          close_is = ap (λ (b : Bool). elim b as (λ _. Ending ParserState)
+              [ false ↦ Ok x | true ↦ stop_if (leb g.capacity (length (patched x))) (Cause.TokensFull line) (λ _.
+              Ok (pushed (patched x ++ (Pest.End index r 0 u.position ∷ [])))) ]) (produces_as o' q u k ∙ e)
 
       -- Recorded, Err: nothing is left of it.
       dropped_rule : ParserState → Ending ParserState
@@ -536,7 +591,8 @@ module _ (g : Setting) where
       discarded_sim : Reading.recorded s ≡ true → (u : State) (q : Stk) → Good o' ss q u → Kept s.lookahead s.atomicity empty u
           → SimFrom o ss s (Reading.discarded g true s u) (dropped_rule (pest_of o' q u))
       discarded_sim e u q j k = err_by g (Reading.with_siblings s.siblings s.outer u) q _
-          (rw (produces_as o' q u k, e) (ap (λ (l : List QueueableToken). Pest.set_queue l (pest_of o' q u)) (drop_rule o s.outer s.siblings s.position (queue_from u.outer u.siblings))))
+          (rw (produces_as o' q u k, e) (ap (λ (l : List QueueableToken). Pest.set_queue l (pest_of o' q u))
+              (drop_rule o s.outer s.siblings s.position (queue_from u.outer u.siblings))))
           (record { base = i.base; inv = j.inv })
           (record { look = k.look; atom = k.atom; grown = grows_refl s.siblings })
 
@@ -544,10 +600,12 @@ module _ (g : Setting) where
           → SimFrom o ss s (Reading.rule_end g true line r n s x) (m_end y)
       end_recorded e x y (sim_ok t q j k) = tracking_sim (is_negative t.lookahead) line r s.position n o'
           (λ u. Reading.closed g true line r s u) (λ u. Pest.close_rule g true line r index u) t q
-          (λ b. closed_sim e (Reading.with_attempts b t) q (record { base = j.base; inv = j.inv }) (record { look = k.look; atom = k.atom; grown = k.grown }))
+          (λ b. closed_sim e (Reading.with_attempts b t) q (record { base = j.base; inv = j.inv })
+              (record { look = k.look; atom = k.atom; grown = k.grown }))
       end_recorded e x y (sim_err t q j k) = tracking_sim (not (is_negative t.lookahead)) line r s.position n o'
           (λ u. Reading.discarded g true s u) dropped_rule t q
-          (λ b. discarded_sim e (Reading.with_attempts b t) q (record { base = j.base; inv = j.inv }) (record { look = k.look; atom = k.atom; grown = k.grown }))
+          (λ b. discarded_sim e (Reading.with_attempts b t) q (record { base = j.base; inv = j.inv })
+              (record { look = k.look; atom = k.atom; grown = k.grown }))
       end_recorded e x y (sim_stop c) = sim_stop c
 
       -- Not recorded: the queue is the body's.
@@ -555,60 +613,82 @@ module _ (g : Setting) where
           → SimFrom o ss s (Reading.rule_end g false line r n s x) (m_end y)
       end_silent e x y (sim_ok t q j k) = tracking_sim (is_negative t.lookahead) line r s.position n o
           (λ u. Reading.closed g false line r s u) (λ u. Pest.close_rule g true line r index u) t q
-          (λ b. subst (λ (y : Ending ParserState). SimFrom o ss s (Ok (Reading.with_attempts b t)) y) (sym (open_still b)) (sim_ok (Reading.with_attempts b t) q (record { base = j.base; inv = j.inv }) (record { look = k.look; atom = k.atom; grown = k.grown })))
+          (λ b. subst (λ (y : Ending ParserState). SimFrom o ss s (Ok (Reading.with_attempts b t)) y) (sym (open_still b))
+              (sim_ok (Reading.with_attempts b t) q (record { base = j.base; inv = j.inv })
+              (record { look = k.look; atom = k.atom; grown = k.grown })))
         where
-          open_still : (b : Attempts) → Pest.close_rule g true line r index (pest_of o q (Reading.with_attempts b t)) ≡ Ok (pest_of o q (Reading.with_attempts b t))
+          open_still : (b : Attempts) → Pest.close_rule g true line r index (pest_of o q (Reading.with_attempts b t))
+              ≡ Ok (pest_of o q (Reading.with_attempts b t))
           open_still b =
               let x : ParserState = pest_of o q (Reading.with_attempts b t) in
-              ap (λ (c : Bool). elim c as (λ _. Ending ParserState) [ false ↦ Ok x | true ↦ Pest.push_token g true line (Pest.End index r 0 x.position) (Pest.set_queue (patched x) x) (λ y. Ok y) ]) (produces_as o q t k ∙ e)
+              ap (λ (c : Bool). elim c as (λ _. Ending ParserState)
+                  [ false ↦ Ok x | true ↦ Pest.push_token g true line (Pest.End index r 0 x.position) (Pest.set_queue (patched x) x) (λ y.
+                  Ok y) ]) (produces_as o q t k ∙ e)
       end_silent e x y (sim_err t q j k) = tracking_sim (not (is_negative t.lookahead)) line r s.position n o
           (λ u. Reading.discarded g false s u) dropped_rule t q
-          (λ b. err_by g (Reading.with_attempts b t) q _ (rw (produces_as o q t k, e)) (record { base = j.base; inv = j.inv }) (record { look = k.look; atom = k.atom; grown = k.grown }))
+          (λ b. err_by g (Reading.with_attempts b t) q _ (rw (produces_as o q t k, e)) (record { base = j.base; inv = j.inv })
+              (record { look = k.look; atom = k.atom; grown = k.grown }))
       end_silent e x y (sim_stop c) = sim_stop c
 
       -- The Start: on both sides there is room for it, or not.
       queue_is : (pest_of o' p (Reading.opened g s)).queue ≡ started.queue
       queue_is = append-nil (prefix o')
 
-      body : leb g.capacity index ≡ false → Reading.recorded s ≡ true → SimFrom o ss s (Reading.rule_end g true line r n s (d (Reading.opened g s))) (m_end (md started))
+      body : leb g.capacity index ≡ false → Reading.recorded s ≡ true
+          → SimFrom o ss s (Reading.rule_end g true line r n s (d (Reading.opened g s))) (m_end (md started))
       body c e =
-          subst (λ (q : List QueueableToken). SimFrom o ss s (Reading.rule_end g true line r n s (d (Reading.opened g s))) (m_end (md (Pest.set_queue q m)))) queue_is
+          subst (λ (q : List QueueableToken).
+              SimFrom o ss s (Reading.rule_end g true line r n s (d (Reading.opened g s))) (m_end (md (Pest.set_queue q m)))) queue_is
           (end_recorded e _ _ (h o' ss p (Reading.opened g s)
           (record { base = length_prefix o s.outer s.siblings s.position i.base; inv = i.inv })
-          (subst (λ (q : List QueueableToken). Fit g (Pest.set_queue q m)) (sym queue_is) (pushed_fit g m m.queue (Pest.Start 0 s.position) v refl c))))
+          (subst (λ (q : List QueueableToken). Fit g (Pest.set_queue q m)) (sym queue_is)
+              (pushed_fit g m m.queue (Pest.Start 0 s.position) v refl c))))
 
       room : Reading.recorded s ≡ true → (b : Bool) → leb g.capacity index ≡ b
-          → SimFrom o ss s (stop_if b (Cause.TokensFull line) (λ _. Reading.rule_end g true line r n s (d (Reading.opened g s)))) (stop_if b (Cause.TokensFull line) (λ _. m_end (md started)))
+          → SimFrom o ss s (stop_if b (Cause.TokensFull line) (λ _. Reading.rule_end g true line r n s (d (Reading.opened g s))))
+              (stop_if b (Cause.TokensFull line) (λ _. m_end (md started)))
       room e true c = sim_stop _
       room e false c = body c e
 
       go : (b : Bool) → Reading.recorded s ≡ b
           → SimFrom o ss s
-          (elim b [ false ↦ Reading.rule_end g false line r n s (d s) | true ↦ stop_if (Reading.no_token g s) (Cause.TokensFull line) (λ _. Reading.rule_end g true line r n s (d (Reading.opened g s))) ])
+          (elim b [ false ↦ Reading.rule_end g false line r n s (d s)
+              | true ↦ stop_if (Reading.no_token g s) (Cause.TokensFull line) (λ _. Reading.rule_end g true line r n s (d (Reading.opened g s))) ])
           (elim b [ false ↦ m_end (md m) | true ↦ stop_if (leb g.capacity index) (Cause.TokensFull line) (λ _. m_end (md started)) ])
-      go true e = subst (λ (c : ℕ). SimFrom o ss s (stop_if (leb g.capacity c) (Cause.TokensFull line) (λ _. Reading.rule_end g true line r n s (d (Reading.opened g s)))) (stop_if (leb g.capacity index) (Cause.TokensFull line) (λ _. m_end (md started))))
+      go true e = subst (λ (c : ℕ). SimFrom o ss s (stop_if (leb g.capacity c) (Cause.TokensFull line) (λ _.
+          Reading.rule_end g true line r n s (d (Reading.opened g s))))
+          (stop_if (leb g.capacity index) (Cause.TokensFull line) (λ _. m_end (md started))))
           (held_is o p s i.base) (room e (leb g.capacity index) refl)
       go false e = end_silent e _ _ (h o ss p s i v)
 
 -- ── All kinds ──
 module _ (g : Setting) (set : ℕ → Bool) (w : Tested g set) where
   module _ (room : Bool) (d : Exp → State → Ending State) (md : Exp → ParserState → Ending ParserState)
-      (h : (e : Exp) → Literals e → Steady set e → Preserves g (d e) (md e)) (k : (e : Exp) → Literals e → Steady set e → Keeping g (still set e) (md e)) where
+      (h : (e : Exp) → Literals e → Steady set e → Preserves g (d e) (md e)) (k : (e : Exp) → Literals e → Steady set e
+          → Keeping g (still set e) (md e)) where
     counted : (r : State → Ending State) (m : ParserState → Ending ParserState) → Preserves g r m
         → Preserves g (λ s. Reading.entering room true s r) (λ x. Pest.check_limit room true x m)
     counted r m z = entering_sim g room true r m z
 
     pub level_sim : (e : Exp) → Literals e → Steady set e → Preserves g (Reading.level g room d e) (Pest.level g true room md e)
-    level_sim (Grammar.match_string l) u y = moved_sim g (λ p. Position.match_string g.text l p) (λ p. Pest.match_string g.text l p) (λ m x. string_same g.text l m.position)
-    level_sim (Grammar.match_insensitive l) u y = moved_sim g (λ p. Position.match_insensitive g.text l p) (λ p. Pest.match_insensitive g.text l p) (λ m x. folded_same g.text l u m.position x.edge.inside x.edge.whole)
-    level_sim (Grammar.match_range a b) u y = moved_sim g (λ p. Position.match_range g.text a b p) (λ p. Pest.match_range g.text a b p) (λ m x. range_same g.text a b m.position)
-    level_sim (Grammar.skip n) u y = moved_sim g (λ p. Position.skip g.text n p) (λ p. Pest.skip g.text n p) (λ m x. skip_same g.text n m.position x.edge.inside)
+    level_sim (Grammar.match_string l) u y =
+        moved_sim g (λ p. Position.match_string g.text l p) (λ p. Pest.match_string g.text l p) (λ m x. string_same g.text l m.position)
+    level_sim (Grammar.match_insensitive l) u y =
+        moved_sim g (λ p. Position.match_insensitive g.text l p) (λ p. Pest.match_insensitive g.text l p) (λ m x.
+        folded_same g.text l u m.position x.edge.inside x.edge.whole)
+    level_sim (Grammar.match_range a b) u y =
+        moved_sim g (λ p. Position.match_range g.text a b p) (λ p. Pest.match_range g.text a b p) (λ m x. range_same g.text a b m.position)
+    level_sim (Grammar.skip n) u y = moved_sim g (λ p. Position.skip g.text n p) (λ p. Pest.skip g.text n p) (λ m x.
+        skip_same g.text n m.position x.edge.inside)
     level_sim Grammar.end_of_input u y = end_sim g
-    level_sim (Grammar.and_then a b) u y = and_sim g (Reading.level g room d a) (Reading.level g room d b) (Pest.level g true room md a) (Pest.level g true room md b) (level_sim a u.0 y.0) (level_sim b u.1 y.1) (level_keeps g set w room md k a u.0 y.0)
-    level_sim (Grammar.or_else a b) u y = or_sim g (Reading.level g room d a) (Reading.level g room d b) (Pest.level g true room md a) (Pest.level g true room md b) (level_sim a u.0 y.0) (level_sim b u.1 y.1) (level_keeps g set w room md k a u.0 y.0)
+    level_sim (Grammar.and_then a b) u y = and_sim g (Reading.level g room d a) (Reading.level g room d b) (Pest.level g true room md a)
+        (Pest.level g true room md b) (level_sim a u.0 y.0) (level_sim b u.1 y.1) (level_keeps g set w room md k a u.0 y.0)
+    level_sim (Grammar.or_else a b) u y = or_sim g (Reading.level g room d a) (Reading.level g room d b) (Pest.level g true room md a)
+        (Pest.level g true room md b) (level_sim a u.0 y.0) (level_sim b u.1 y.1) (level_keeps g set w room md k a u.0 y.0)
     level_sim (Grammar.rule line r e) u y = counted _ (λ x. Pest.rule g true line r (md e) x) (rule_sim g line r (d e) (md e) (h e u y))
     level_sim (Grammar.sequence e) u y = counted _ (λ x. Pest.sequence (md e) x) (sequence_sim g (d e) (md e) (h e u y))
-    level_sim (Grammar.repeat e) u y = counted (λ s. Reading.rounds (most_rounds g s.position) (d e) s) (λ x. Pest.repeat (most_rounds g x.position) (md e) x)
+    level_sim (Grammar.repeat e) u y = counted (λ s. Reading.rounds (most_rounds g s.position) (d e) s) (λ x.
+        Pest.repeat (most_rounds g x.position) (md e) x)
         (λ o ss p s i v. rounds_sim g (most_rounds g s.position) (d e) (md e) (h e u y.1) (k e u y.1) o ss p s i v)
     level_sim (Grammar.optional e) u y = counted _ (λ x. Pest.optional (md e x)) (optional_sim g (d e) (md e) (h e u y))
     level_sim (Grammar.lookahead b e) u y = counted _ (λ x. Pest.lookahead b (md e) x) (lookahead_sim g b (d e) (md e) (h e u y))
@@ -621,7 +701,8 @@ module _ (g : Setting) (set : ℕ → Bool) (w : Tested g set) where
     level_sim (Grammar.tag_node t) u y = tag_sim g t
     level_sim (Grammar.call l) u y =
         let r : RuleLine = g.rule_at l in
-        counted _ (λ x. Pest.rule g true r.line r.rule (md r.body) x) (rule_sim g r.line r.rule (d r.body) (md r.body) (h r.body (w.literals l) (w.steady l)))
+        counted _ (λ x. Pest.rule g true r.line r.rule (md r.body) x)
+            (rule_sim g r.line r.rule (d r.body) (md r.body) (h r.body (w.literals l) (w.steady l)))
 
   refuses : (e : Exp) → Literals e → Steady set e → Preserves g (Reading.no_deeper g e) (Pest.no_deeper g true e)
   refuses e u y o ss p s i v =

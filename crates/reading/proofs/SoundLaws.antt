@@ -29,7 +29,8 @@ pub sound_push : (x : Span) (v : Pest.Stack) → Sound v → length v.cache < 12
 sound_push x v s l = record { fits = fits_to s.fits (omega arith) l; owed = s.owed; low = s.low }
 
 module _ (x : Span) (rest p : List Span) where
-  pop_sound : (ks : List Checkpoint) → Fits (suc (length rest)) ks → length p ≡ debt ks → debt (pop x rest (pest (x ∷ rest) p ks)).lengths ≤ 1024 → Sound (pop x rest (pest (x ∷ rest) p ks))
+  pop_sound : (ks : List Checkpoint) → Fits (suc (length rest)) ks → length p ≡ debt ks
+      → debt (pop x rest (pest (x ∷ rest) p ks)).lengths ≤ 1024 → Sound (pop x rest (pest (x ∷ rest) p ks))
   pop_sound [] (fits_none l) e d = let l' : length rest ≤ 128 = omega arith in record { fits = fits_none l'; owed = e; low = d }
   pop_sound (k ∷ ks) (fits_one l u o f) e d = go (eqb (suc (length rest)) k.lowest) refl d
     where
@@ -49,7 +50,8 @@ module _ (x : Span) (rest p : List Span) where
           record { fits = fits_one l' u' o f; owed = e; low = d₁ }
 
 -- A pop that the debt allows.
-pub sound_pop : (x : Span) (rest : List Span) (v : Pest.Stack) → v.cache ≡ x ∷ rest → Sound v → debt (pop x rest v).lengths ≤ 1024 → Sound (pop x rest v)
+pub sound_pop : (x : Span) (rest : List Span) (v : Pest.Stack) → v.cache ≡ x ∷ rest → Sound v → debt (pop x rest v).lengths ≤ 1024
+    → Sound (pop x rest v)
 sound_pop x rest v e s d = pop_sound x rest v.popped v.lengths (rw e at s.fits) s.owed d
 
 pub sound_snapshot : (v : Pest.Stack) → Sound v → Sound (snapshot v)
@@ -79,7 +81,9 @@ clear_sound c p (k ∷ k₁ ∷ ks) s = go s.fits
         let o' : min k₁.lowest k.lowest ≤ k₁.height = omega arith in
         record {
           fits = fits_one l u' o' f;
-          owed = simp (length-append, length-take, length-drop) (clear_sum (k.height - k.lowest) k.lowest (k₁.height - k₁.lowest) k₁.lowest (debt ks) (length p) k₁.height (omega arith) (omega arith) s.owed);
+          owed = simp (length-append, length-take, length-drop)
+              (clear_sum (k.height - k.lowest) k.lowest (k₁.height - k₁.lowest) k₁.lowest (debt ks) (length p) k₁.height (omega arith)
+              (omega arith) s.owed);
           low = omega (arith, s.low);
         }
 
@@ -92,17 +96,23 @@ restore_sound c p (k ∷ ks) s = go s.fits (dec_lt k.lowest (length c)) (dec_lt 
   where
     go : Fits (length c) (k ∷ ks) → Dec (k.lowest < length c) → Dec (k.lowest < k.height) → Sound (restore (pest c p (k ∷ ks)))
     go (fits_one l u o f) (yes a) (yes b) =
-        let e : length (reverse (take (k.height - k.lowest) p) ++ truncate k.lowest c) ≡ k.height = simp (length-append, length-reverse, length-take, length-drop) (omega (arith, s.owed)) in
-        rw (lt-ltb k.lowest (length c) a, lt-ltb k.lowest k.height b) (record { fits = rw e f; owed = simp length-drop (omega (arith, s.owed)); low = omega (arith, s.low) })
+        let e : length (reverse (take (k.height - k.lowest) p) ++ truncate k.lowest c) ≡ k.height =
+                simp (length-append, length-reverse, length-take, length-drop) (omega (arith, s.owed)) in
+        rw (lt-ltb k.lowest (length c) a, lt-ltb k.lowest k.height b)
+            (record { fits = rw e f; owed = simp length-drop (omega (arith, s.owed)); low = omega (arith, s.low) })
     go (fits_one l u o f) (yes a) (no b) =
         let e : length (truncate k.lowest c) ≡ k.height = simp length-drop (omega arith) in
-        rw (lt-ltb k.lowest (length c) a, le-ltb k.lowest k.height (omega arith)) (record { fits = rw e f; owed = omega (arith, s.owed); low = omega (arith, s.low) })
+        rw (lt-ltb k.lowest (length c) a, le-ltb k.lowest k.height (omega arith))
+            (record { fits = rw e f; owed = omega (arith, s.owed); low = omega (arith, s.low) })
     go (fits_one l u o f) (no a) (yes b) =
-        let e : length (reverse (take (k.height - k.lowest) p) ++ c) ≡ k.height = simp (length-append, length-reverse, length-take) (omega (arith, s.owed)) in
-        rw (le-ltb k.lowest (length c) (omega arith), lt-ltb k.lowest k.height b) (record { fits = rw e f; owed = simp length-drop (omega (arith, s.owed)); low = omega (arith, s.low) })
+        let e : length (reverse (take (k.height - k.lowest) p) ++ c) ≡ k.height =
+                simp (length-append, length-reverse, length-take) (omega (arith, s.owed)) in
+        rw (le-ltb k.lowest (length c) (omega arith), lt-ltb k.lowest k.height b)
+            (record { fits = rw e f; owed = simp length-drop (omega (arith, s.owed)); low = omega (arith, s.low) })
     go (fits_one l u o f) (no a) (no b) =
         let e : length c ≡ k.height = omega arith in
-        rw (le-ltb k.lowest (length c) (omega arith), le-ltb k.lowest k.height (omega arith)) (record { fits = rw e f; owed = omega (arith, s.owed); low = omega (arith, s.low) })
+        rw (le-ltb k.lowest (length c) (omega arith), le-ltb k.lowest k.height (omega arith))
+            (record { fits = rw e f; owed = omega (arith, s.owed); low = omega (arith, s.low) })
 
 pub sound_restore : (v : Pest.Stack) → Sound v → Sound (restore v)
 sound_restore v s = restore_sound v.cache v.popped v.lengths s
@@ -112,7 +122,8 @@ pub lengths_pop : (x : Span) (rest : List Span) (v : Pest.Stack) → length (pop
 lengths_pop x rest v = go v.lengths
   where
     pick : (b : Bool) (k : Checkpoint) (ks : List Checkpoint)
-        → length (if b then pest rest (x ∷ v.popped) (record { height = k.height; lowest = k.lowest - 1 } ∷ ks) else pest rest v.popped (k ∷ ks)).lengths ≡ suc (length ks)
+        → length (if b then pest rest (x ∷ v.popped) (record { height = k.height; lowest = k.lowest - 1 } ∷ ks)
+            else pest rest v.popped (k ∷ ks)).lengths ≡ suc (length ks)
     pick true k ks = refl
     pick false k ks = refl
 

@@ -52,7 +52,8 @@ pop_above : (x : Span) (rest p : Stk) (k : Checkpoint) (ks : List Checkpoint) �
     → pop x rest (pest (x ∷ rest) p (k ∷ ks)) ≡ pest rest p (lower_to (length rest) (k ∷ ks))
 pop_above x rest p k ks h =
     let l : k.lowest ≡ min k.lowest (length rest) = omega arith in
-    rw (ne_eqb (suc (length rest)) k.lowest (λ (e : suc (length rest) ≡ k.lowest). omega arith)) (ap (λ (n : ℕ). pest rest p (mark k.height n ∷ ks)) l)
+    rw (ne_eqb (suc (length rest)) k.lowest (λ (e : suc (length rest) ≡ k.lowest). omega arith))
+        (ap (λ (n : ℕ). pest rest p (mark k.height n ∷ ks)) l)
 
 pub inv_pop : (x : Span) (rest : Stk) {p : Stk} {ss : List Stk} {ks : List Checkpoint} → Inv (x ∷ rest) ss p ks → Popped x rest ss p ks
 inv_pop x rest bottom = record { left = []; same = refl; inv = bottom }
@@ -95,12 +96,14 @@ kept_is (y ∷ b) z =
 over_popped : (a z : Stk) → length (reverse a) ≡ length (a ++ z) - length z
 over_popped a z = omega (arith, length-append a z, length-reverse a)
 
-restore_is : (a b z q : Stk) (ks : List Checkpoint) → restore (pest (b ++ z) (reverse a ++ q) (mark (length (a ++ z)) (length z) ∷ ks)) ≡ pest (a ++ z) q ks
+restore_is : (a b z q : Stk) (ks : List Checkpoint) → restore (pest (b ++ z) (reverse a ++ q) (mark (length (a ++ z)) (length z) ∷ ks))
+    ≡ pest (a ++ z) q ks
 restore_is [] b z q ks = rw (le-ltb (length z) (length z) (omega arith)) (ap (λ (l : Stk). pest l q ks) (kept_is b z))
 restore_is (x ∷ a) b z q ks =
     let r : Stk = reverse (x ∷ a) in
     let n : ℕ = length ((x ∷ a) ++ z) - length z in
-    rw (lt-ltb (length z) (length ((x ∷ a) ++ z)) (omega (arith, length-append (x ∷ a) z)), kept_is b z, take_at r q n (over_popped (x ∷ a) z), drop_at r q n (over_popped (x ∷ a) z), reverse-reverse (x ∷ a))
+    rw (lt-ltb (length z) (length ((x ∷ a) ++ z)) (omega (arith, length-append (x ∷ a) z)), kept_is b z,
+        take_at r q n (over_popped (x ∷ a) z), drop_at r q n (over_popped (x ∷ a) z), reverse-reverse (x ∷ a))
 
 pub inv_restore : {c s p : Stk} {ss : List Stk} {ks : List Checkpoint} → Inv c (s ∷ ss) p ks → Restored c s ss p ks
 inv_restore (snap {ks = ks} a b z q ec es ep ek i) = record {
@@ -139,7 +142,8 @@ height_of : {k : Checkpoint} {h l : ℕ} → k ≡ mark h l → k.height ≡ h
 height_of e = ap (λ (c : Checkpoint). c.height) e
 
 -- What was popped under the innermost checkpoint, dropped.
-drop_popped : {s p : Stk} {k : Checkpoint} (a z q : Stk) → s ≡ a ++ z → p ≡ reverse a ++ q → k ≡ mark (length s) (length z) → drop (k.height - k.lowest) p ≡ q
+drop_popped : {s p : Stk} {k : Checkpoint} (a z q : Stk) → s ≡ a ++ z → p ≡ reverse a ++ q → k ≡ mark (length s) (length z)
+    → drop (k.height - k.lowest) p ≡ q
 drop_popped {s} {p} {k} a z q es ep ek =
     let n : length (reverse a) ≡ k.height - k.lowest = omega (arith, height_of ek, lowest_of ek, ap length es, length-append a z, length-reverse a) in
     rw ep (drop_at (reverse a) q (k.height - k.lowest) n)
@@ -161,7 +165,8 @@ inv_clear (snap {c = c} {s = s} {p = p} {k = k} a b z q ec es ep ek i) = onto i 
         low₁ : k₁.lowest ≡ length z₁
         low₁ = lowest_of ek₁
 
-        both : Tails a z b₁ z₁ → Inv c (s₁ ∷ ss₁) (take (k₁.lowest - min k₁.lowest k.lowest) p ++ drop (k.height - k.lowest) p) (mark k₁.height (min k₁.lowest k.lowest) ∷ ks₁)
+        both : Tails a z b₁ z₁ → Inv c (s₁ ∷ ss₁) (take (k₁.lowest - min k₁.lowest k.lowest) p ++ drop (k.height - k.lowest) p)
+            (mark k₁.height (min k₁.lowest k.lowest) ∷ ks₁)
         both (shorter d ez ea) =
             let n : length z₁ ≡ length d + length z = ap length ez ∙ length-append d z in
             let lo : min k₁.lowest k.lowest ≡ length z = omega (arith, low, low₁) in
@@ -169,7 +174,8 @@ inv_clear (snap {c = c} {s = s} {p = p} {k = k} a b z q ec es ep ek i) = onto i 
             let pp : p ≡ reverse d ++ (reverse b₁ ++ q) = ep ∙ simp (ea, reverse-append, append_assoc) in
             snap (a₁ ++ d) b z q₁ ec
             (es₁ ∙ ap (λ (l : Stk). a₁ ++ l) ez ∙ sym (append_assoc a₁ d z))
-            (ap₂ (λ (l r : Stk). l ++ r) (ap (take (k₁.lowest - min k₁.lowest k.lowest)) pp ∙ take_at (reverse d) (reverse b₁ ++ q) _ cnt) (e ∙ ep₁) ∙ simp (reverse-append, append_assoc))
+            (ap₂ (λ (l r : Stk). l ++ r) (ap (take (k₁.lowest - min k₁.lowest k.lowest)) pp ∙ take_at (reverse d) (reverse b₁ ++ q) _ cnt)
+                (e ∙ ep₁) ∙ simp (reverse-append, append_assoc))
             (ap₂ mark (height_of ek₁) lo)
             i₁
         both (longer d ez eb) =
@@ -195,4 +201,5 @@ restore_none c p = refl
 pub popped_is_debt : {c p : Stk} {ss : List Stk} {ks : List Checkpoint} → Inv c ss p ks → length p ≡ debt ks
 popped_is_debt bottom = refl
 popped_is_debt (snap {p = p} {k = k} a b z q ec es ep ek i) =
-    omega (arith, popped_is_debt i, ap length ep, length-append (reverse a) q, length-reverse a, height_of ek, lowest_of ek, ap length es, length-append a z)
+    omega (arith, popped_is_debt i, ap length ep, length-append (reverse a) q, length-reverse a, height_of ek, lowest_of ek, ap length es,
+        length-append a z)

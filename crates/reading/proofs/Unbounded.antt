@@ -37,25 +37,32 @@ unless_full : (b : Bool) (c : Cause) (x y : Ending ParserState) → Freed x y �
 unless_full true c x y h = freed_stop c y
 unless_full false c x y h = h
 
-then_ok : (f h : ParserState → Ending ParserState) → Frees f h → (x y : Ending ParserState) → Freed x y → Freed (on_ok x (λ n. f n)) (on_ok y (λ n. h n))
+then_ok : (f h : ParserState → Ending ParserState) → Frees f h → (x y : Ending ParserState) → Freed x y
+    → Freed (on_ok x (λ n. f n)) (on_ok y (λ n. h n))
 then_ok f h k x y (freed (Ok m)) = k m
 then_ok f h k x y (freed (Err m)) = freed (Err m)
 then_ok f h k x y (freed (Stop c)) = freed (Stop c)
 then_ok f h k x y (freed_stop c z) = freed_stop c (on_ok z (λ n. h n))
 
-then_err : (f h : ParserState → Ending ParserState) → Frees f h → (x y : Ending ParserState) → Freed x y → Freed (on_err x (λ n. f n)) (on_err y (λ n. h n))
+then_err : (f h : ParserState → Ending ParserState) → Frees f h → (x y : Ending ParserState) → Freed x y
+    → Freed (on_err x (λ n. f n)) (on_err y (λ n. h n))
 then_err f h k x y (freed (Ok m)) = freed (Ok m)
 then_err f h k x y (freed (Err m)) = k m
 then_err f h k x y (freed (Stop c)) = freed (Stop c)
 then_err f h k x y (freed_stop c z) = freed_stop c (on_err z (λ n. h n))
 
-entering_frees : (room counts : Bool) (f h : ParserState → Ending ParserState) → Frees f h → Frees (λ m. Pest.check_limit room counts m f) (λ m. Pest.check_limit room counts m h)
+entering_frees : (room counts : Bool) (f h : ParserState → Ending ParserState) → Frees f h
+    → Frees (λ m. Pest.check_limit room counts m f) (λ m. Pest.check_limit room counts m h)
 entering_frees room counts f h k m = go (Pest.enter room counts m.call_tracker)
   where
-    go : (e : Entered) → Freed (elim e.answer [ false ↦ Err (Pest.set_call_tracker e.tracker m) | true ↦ f (Pest.set_call_tracker e.tracker m) ]) (elim e.answer [ false ↦ Err (Pest.set_call_tracker e.tracker m) | true ↦ h (Pest.set_call_tracker e.tracker m) ])
+    go : (e : Entered) → Freed (elim e.answer
+        [ false ↦ Err (Pest.set_call_tracker e.tracker m) | true ↦ f (Pest.set_call_tracker e.tracker m) ]) (elim e.answer
+        [ false ↦ Err (Pest.set_call_tracker e.tracker m) | true ↦ h (Pest.set_call_tracker e.tracker m) ])
     go e = pick e.answer
       where
-        pick : (b : Bool) → Freed (elim b [ false ↦ Err (Pest.set_call_tracker e.tracker m) | true ↦ f (Pest.set_call_tracker e.tracker m) ]) (elim b [ false ↦ Err (Pest.set_call_tracker e.tracker m) | true ↦ h (Pest.set_call_tracker e.tracker m) ])
+        pick : (b : Bool) → Freed (elim b [ false ↦ Err (Pest.set_call_tracker e.tracker m)
+            | true ↦ f (Pest.set_call_tracker e.tracker m) ]) (elim b
+            [ false ↦ Err (Pest.set_call_tracker e.tracker m) | true ↦ h (Pest.set_call_tracker e.tracker m) ])
         pick true = k (Pest.set_call_tracker e.tracker m)
         pick false = freed _
 
@@ -63,7 +70,8 @@ repeat_frees : (n : ℕ) (f h : ParserState → Ending ParserState) → Frees f 
 repeat_frees zero f h k m = freed (Err m)
 repeat_frees (suc n) f h k m = go (f m) (h m) (k m) (repeat_frees n f h k)
   where
-    go : (x y : Ending ParserState) → Freed x y → Frees (λ m. Pest.repeat n f m) (λ m. Pest.repeat n h m) → Freed (Pest.round_end x (λ t. Pest.repeat n f t)) (Pest.round_end y (λ t. Pest.repeat n h t))
+    go : (x y : Ending ParserState) → Freed x y → Frees (λ m. Pest.repeat n f m) (λ m. Pest.repeat n h m)
+        → Freed (Pest.round_end x (λ t. Pest.repeat n f t)) (Pest.round_end y (λ t. Pest.repeat n h t))
     go x y (freed (Ok m)) ih = ih m
     go x y (freed (Err m)) ih = freed _
     go x y (freed (Stop c)) ih = freed (Stop c)
@@ -81,11 +89,13 @@ module _ (g : Setting) where
       full : Bool
       full = ltb most_attempts (length n.pos_attempts) || ltb most_attempts (length n.neg_attempts)
 
-      go : (b : Bool) → Freed (elim b [ false ↦ f m | true ↦ stop_if full (Cause.AttemptsFull line) (λ _. f n) ]) (elim b [ false ↦ h m | true ↦ h n ])
+      go : (b : Bool) → Freed (elim b [ false ↦ f m | true ↦ stop_if full (Cause.AttemptsFull line) (λ _. f n) ]) (elim b
+          [ false ↦ h m | true ↦ h n ])
       go false = k m
       go true = unless_full full (Cause.AttemptsFull line) (f n) (h n) (k n)
 
-  push_frees : (line : ℕ) (t : QueueableToken) (m : ParserState) (f h : ParserState → Ending ParserState) → Frees f h → Freed (Pest.push_token g true line t m f) (Pest.push_token g false line t m h)
+  push_frees : (line : ℕ) (t : QueueableToken) (m : ParserState) (f h : ParserState → Ending ParserState) → Frees f h
+      → Freed (Pest.push_token g true line t m f) (Pest.push_token g false line t m h)
   push_frees line t m f h k = unless_full (leb g.capacity (length m.queue)) (Cause.TokensFull line) _ _ (k (Pest.set_queue (m.queue ++ (t ∷ [])) m))
 
   close_frees : (line r index : ℕ) → Frees (λ m. Pest.close_rule g true line r index m) (λ m. Pest.close_rule g false line r index m)
@@ -94,11 +104,13 @@ module _ (g : Setting) where
       n : ParserState
       n = Pest.set_queue (set m.queue index (Pest.with_end (length m.queue) (get_or m.queue index (Pest.Start 0 0)))) m
 
-      go : (b : Bool) → Freed (elim b [ false ↦ Ok m | true ↦ Pest.push_token g true line (Pest.End index r 0 m.position) n (λ t. Ok t) ]) (elim b [ false ↦ Ok m | true ↦ Pest.push_token g false line (Pest.End index r 0 m.position) n (λ t. Ok t) ])
+      go : (b : Bool) → Freed (elim b [ false ↦ Ok m | true ↦ Pest.push_token g true line (Pest.End index r 0 m.position) n (λ t. Ok t) ])
+          (elim b [ false ↦ Ok m | true ↦ Pest.push_token g false line (Pest.End index r 0 m.position) n (λ t. Ok t) ])
       go false = freed (Ok m)
       go true = push_frees line (Pest.End index r 0 m.position) n (λ t. Ok t) (λ t. Ok t) (λ t. freed (Ok t))
 
-  rule_frees : (line r : ℕ) (f h : ParserState → Ending ParserState) → Frees f h → Frees (λ m. Pest.rule g true line r f m) (λ m. Pest.rule g false line r h m)
+  rule_frees : (line r : ℕ) (f h : ParserState → Ending ParserState) → Frees f h
+      → Frees (λ m. Pest.rule g true line r f m) (λ m. Pest.rule g false line r h m)
   rule_frees line r f h k m = go (Pest.produces m)
     where
       pi : ℕ
@@ -111,27 +123,37 @@ module _ (g : Setting) where
       cut t = if Pest.produces t then Pest.set_queue (take (length m.queue) t.queue) t else t
 
       ends : (prev : ℕ) (x y : Ending ParserState) → Freed x y
-          → Freed (Pest.rule_end g true line r m.position (length m.queue) pi ni prev x) (Pest.rule_end g false line r m.position (length m.queue) pi ni prev y)
-      ends prev x y (freed (Ok n)) = tracking_frees (is_negative n.lookahead) line r m.position pi ni prev n (λ t. Pest.close_rule g true line r (length m.queue) t) (λ t. Pest.close_rule g false line r (length m.queue) t) (close_frees line r (length m.queue))
-      ends prev x y (freed (Err n)) = tracking_frees (not (is_negative n.lookahead)) line r m.position pi ni prev n (λ t. Err (cut t)) (λ t. Err (cut t)) (λ t. freed (Err (cut t)))
+          → Freed (Pest.rule_end g true line r m.position (length m.queue) pi ni prev x)
+              (Pest.rule_end g false line r m.position (length m.queue) pi ni prev y)
+      ends prev x y (freed (Ok n)) = tracking_frees (is_negative n.lookahead) line r m.position pi ni prev n (λ t.
+          Pest.close_rule g true line r (length m.queue) t) (λ t. Pest.close_rule g false line r (length m.queue) t)
+          (close_frees line r (length m.queue))
+      ends prev x y (freed (Err n)) = tracking_frees (not (is_negative n.lookahead)) line r m.position pi ni prev n (λ t. Err (cut t))
+          (λ t. Err (cut t)) (λ t. freed (Err (cut t)))
       ends prev x y (freed (Stop c)) = freed (Stop c)
       ends prev x y (freed_stop c z) = freed_stop c _
 
       go : (b : Bool) → Freed
-          (elim b [ false ↦ Pest.rule_start g true line r pi ni f m m | true ↦ Pest.push_token g true line (Pest.Start 0 m.position) m (λ n. Pest.rule_start g true line r pi ni f m n) ])
-          (elim b [ false ↦ Pest.rule_start g false line r pi ni h m m | true ↦ Pest.push_token g false line (Pest.Start 0 m.position) m (λ n. Pest.rule_start g false line r pi ni h m n) ])
+          (elim b [ false ↦ Pest.rule_start g true line r pi ni f m m
+              | true ↦ Pest.push_token g true line (Pest.Start 0 m.position) m (λ n. Pest.rule_start g true line r pi ni f m n) ])
+          (elim b [ false ↦ Pest.rule_start g false line r pi ni h m m
+              | true ↦ Pest.push_token g false line (Pest.Start 0 m.position) m (λ n. Pest.rule_start g false line r pi ni h m n) ])
       go false = ends (Pest.attempts_at m.position m) (f m) (h m) (k m)
-      go true = push_frees line (Pest.Start 0 m.position) m (λ n. Pest.rule_start g true line r pi ni f m n) (λ n. Pest.rule_start g false line r pi ni h m n) (λ n. ends (Pest.attempts_at m.position n) (f n) (h n) (k n))
+      go true = push_frees line (Pest.Start 0 m.position) m (λ n. Pest.rule_start g true line r pi ni f m n) (λ n.
+          Pest.rule_start g false line r pi ni h m n) (λ n. ends (Pest.attempts_at m.position n) (f n) (h n) (k n))
 
   -- ── Kinds 14, 15 and 17 ──
-  push_end_frees : (line start : ℕ) (x y : Ending ParserState) → Freed x y → Freed (Pest.push_end g.text true line start x) (Pest.push_end g.text false line start y)
+  push_end_frees : (line start : ℕ) (x y : Ending ParserState) → Freed x y
+      → Freed (Pest.push_end g.text true line start x) (Pest.push_end g.text false line start y)
   push_end_frees line start x y (freed (Ok m)) = unless_full (leb most_entries (length m.stack.cache)) (Cause.StackFull line) _ _ (freed _)
   push_end_frees line start x y (freed (Err m)) = freed (Err m)
   push_end_frees line start x y (freed (Stop c)) = freed (Stop c)
   push_end_frees line start x y (freed_stop c z) = freed_stop c _
 
-  popping_frees : (line : ℕ) (x : Span) (rest : List Span) (m : ParserState) (f h : ParserState → Ending ParserState) → Frees f h → Freed (Pest.popping g.text true line x rest m f) (Pest.popping g.text false line x rest m h)
-  popping_frees line x rest m f h k = unless_full (ltb most_debt (debt (Pest.pop x rest m.stack).lengths)) (Cause.StackFull line) _ _ (k (Pest.set_stack (Pest.pop x rest m.stack) m))
+  popping_frees : (line : ℕ) (x : Span) (rest : List Span) (m : ParserState) (f h : ParserState → Ending ParserState) → Frees f h
+      → Freed (Pest.popping g.text true line x rest m f) (Pest.popping g.text false line x rest m h)
+  popping_frees line x rest m f h k = unless_full (ltb most_debt (debt (Pest.pop x rest m.stack).lengths)) (Cause.StackFull line) _ _
+      (k (Pest.set_stack (Pest.pop x rest m.stack) m))
 
   pop_frees : (line : ℕ) (c : List Span) → Frees (λ m. Pest.stack_pop g.text true line c m) (λ m. Pest.stack_pop g.text false line c m)
   pop_frees line [] m = freed _
@@ -140,15 +162,18 @@ module _ (g : Setting) where
       after_pop : ParserState → Ending ParserState
       after_pop n = Pest.moved (Pest.match_string g.text (Pest.as_str g.text x) n.position) n
 
-  match_pop_frees : (line : ℕ) (c : List Span) (p : ℕ) → Frees (λ m. Pest.stack_match_pop g.text true line c p m) (λ m. Pest.stack_match_pop g.text false line c p m)
+  match_pop_frees : (line : ℕ) (c : List Span) (p : ℕ)
+      → Frees (λ m. Pest.stack_match_pop g.text true line c p m) (λ m. Pest.stack_match_pop g.text false line c p m)
   match_pop_frees line [] p m = freed _
   match_pop_frees line (x ∷ rest) p m = popping_frees line x rest m
       (λ n. elim (Pest.match_string g.text (Pest.as_str g.text x) p) [ None ↦ Err n | Some q ↦ Pest.stack_match_pop g.text true line rest q n ])
       (λ n. elim (Pest.match_string g.text (Pest.as_str g.text x) p) [ None ↦ Err n | Some q ↦ Pest.stack_match_pop g.text false line rest q n ])
       (λ n. go (Pest.match_string g.text (Pest.as_str g.text x) p) n (λ q. match_pop_frees line rest q))
     where
-      go : (o : Option ℕ) (n : ParserState) → ((q : ℕ) → Frees (λ m. Pest.stack_match_pop g.text true line rest q m) (λ m. Pest.stack_match_pop g.text false line rest q m))
-          → Freed (elim o [ None ↦ Err n | Some q ↦ Pest.stack_match_pop g.text true line rest q n ]) (elim o [ None ↦ Err n | Some q ↦ Pest.stack_match_pop g.text false line rest q n ])
+      go : (o : Option ℕ) (n : ParserState) →
+          ((q : ℕ) → Frees (λ m. Pest.stack_match_pop g.text true line rest q m) (λ m. Pest.stack_match_pop g.text false line rest q m))
+          → Freed (elim o [ None ↦ Err n | Some q ↦ Pest.stack_match_pop g.text true line rest q n ]) (elim o
+              [ None ↦ Err n | Some q ↦ Pest.stack_match_pop g.text false line rest q n ])
       go None n ih = freed (Err n)
       go (Some q) n ih = ih q n
 
@@ -166,18 +191,25 @@ module _ (g : Setting) where
     level_frees (Grammar.and_then a b) m = then_ok _ _ (level_frees b) _ _ (level_frees a m)
     level_frees (Grammar.or_else a b) m = then_err _ _ (level_frees b) _ _ (level_frees a m)
     level_frees (Grammar.rule line r x) m = counted _ _ (rule_frees line r (d x) (e x) (k x)) m
-    level_frees (Grammar.sequence x) m = counted _ _ (λ n. after (Pest.sequence_end (length n.queue) n.position) (record { stops = λ c. refl }) _ _ (k x (Pest.checkpoint n))) m
+    level_frees (Grammar.sequence x) m = counted _ _ (λ n.
+        after (Pest.sequence_end (length n.queue) n.position) (record { stops = λ c. refl }) _ _ (k x (Pest.checkpoint n))) m
     level_frees (Grammar.repeat x) m = counted _ _ (λ n. repeat_frees (most_rounds g n.position) (d x) (e x) (k x) n) m
     level_frees (Grammar.optional x) m = counted _ _ (λ n. after Pest.optional (record { stops = λ c. refl }) _ _ (k x n)) m
-    level_frees (Grammar.lookahead b x) m = counted _ _ (λ n. after (Pest.lookahead_end b n.lookahead n.position) (record { stops = λ c. refl }) _ _ (k x (Pest.checkpoint (Pest.set_lookahead (Pest.lookahead_in b n.lookahead) n)))) m
-    level_frees (Grammar.atomic a x) m = counted _ _ (λ n. after (Pest.atomic_end (not (Pest.same_atomicity n.atomicity a)) n.atomicity) (record { stops = λ c. refl }) _ _ (k x (Pest.toggle (not (Pest.same_atomicity n.atomicity a)) a n))) m
+    level_frees (Grammar.lookahead b x) m = counted _ _ (λ n.
+        after (Pest.lookahead_end b n.lookahead n.position) (record { stops = λ c. refl }) _ _
+        (k x (Pest.checkpoint (Pest.set_lookahead (Pest.lookahead_in b n.lookahead) n)))) m
+    level_frees (Grammar.atomic a x) m = counted _ _ (λ n.
+        after (Pest.atomic_end (not (Pest.same_atomicity n.atomicity a)) n.atomicity) (record { stops = λ c. refl }) _ _
+        (k x (Pest.toggle (not (Pest.same_atomicity n.atomicity a)) a n))) m
     level_frees (Grammar.stack_push line x) m = counted _ _ (λ n. push_end_frees line n.position _ _ (k x n)) m
     level_frees (Grammar.stack_pop line) m = pop_frees line m.stack.cache m
     level_frees (Grammar.stack_match_peek_slice i j t) m = freed _
     level_frees (Grammar.stack_match_pop line) m = match_pop_frees line m.stack.cache m.position m
-    level_frees (Grammar.restore_on_err x) m = entering_frees room false _ _ (λ n. after Pest.restore_on_err_end (record { stops = λ c. refl }) _ _ (k x (Pest.checkpoint n))) m
+    level_frees (Grammar.restore_on_err x) m =
+        entering_frees room false _ _ (λ n. after Pest.restore_on_err_end (record { stops = λ c. refl }) _ _ (k x (Pest.checkpoint n))) m
     level_frees (Grammar.tag_node t) m = freed _
-    level_frees (Grammar.call l) m = counted _ _ (rule_frees (g.rule_at l).line (g.rule_at l).rule (d (g.rule_at l).body) (e (g.rule_at l).body) (k (g.rule_at l).body)) m
+    level_frees (Grammar.call l) m = counted _ _ (rule_frees (g.rule_at l).line (g.rule_at l).rule (d (g.rule_at l).body)
+        (e (g.rule_at l).body) (k (g.rule_at l).body)) m
 
   -- The bounded evaluation and pest's, at every depth and for every tree.
   pub eval_frees : (depth : ℕ) (x : Exp) → Frees (Pest.eval g true depth x) (Pest.eval g false depth x)

@@ -5,7 +5,9 @@ use Rattle.std.specs.Prelude.{Option, None, Some}
 use Rattle.matching.specs.Utf8.{within, characters}
 use Rattle.matching.specs.Position.{same_folded}
 use Rattle.reading.specs.Reading.{Setting}
-use Rattle.reading.specs.Grammar.{Exp, match_string, match_insensitive, match_range, skip, end_of_input, and_then, or_else, rule, sequence, repeat, optional, lookahead, atomic, stack_push, stack_pop, stack_match_peek_slice, stack_match_pop, restore_on_err, tag_node, call}
+use Rattle.reading.specs.Grammar.{Exp, match_string, match_insensitive, match_range, skip, end_of_input, and_then, or_else, rule, sequence}
+use Rattle.reading.specs.Grammar.{repeat, optional, lookahead, atomic, stack_push, stack_pop, stack_match_peek_slice, stack_match_pop}
+use Rattle.reading.specs.Grammar.{restore_on_err, tag_node, call}
 
 infixr 30 ◌then◌
 infixr 20 ◌or◌

@@ -1,5 +1,6 @@
 -- Grammars as node lines: the table of kinds, and the tree that a line stands for. Document 01, "Nodes".
-use Rattle.std.specs.Prelude.{Bool, true, false, ◌&&◌, ◌||◌, not, List, [], ◌∷◌, ◌++◌, ℕ, zero, suc, ◌+◌, ◌-◌, ◌*◌, ◌/◌, ℤ, pos, negsuc, length, get_or, take, drop, eqb, leb, ltb, if◌then◌else◌}
+use Rattle.std.specs.Prelude.{Bool, true, false, ◌&&◌, ◌||◌, not, List, [], ◌∷◌, ◌++◌, ℕ, zero, suc, ◌+◌, ◌-◌, ◌*◌, ◌/◌, ℤ, pos, negsuc}
+use Rattle.std.specs.Prelude.{length, get_or, take, drop, eqb, leb, ltb, if◌then◌else◌}
 use Rattle.std.specs.Prelude.{Option, None, Some}
 use Rattle.matching.specs.Utf8.{within, is_utf8}
 use Rattle.reading.specs.declared.node.Node.{Node}

@@ -8,7 +8,8 @@
 -- `same_folded`, `bytes_of`. Of Grammar: which tree a line stands for, and `rule_at`. Of Ending: `on_ok` and `on_err` (kinds 6 and 7),
 -- `is_none`, `is_negative`, `is_atomic`. Of Reading: `is_set`. Shared too, but no part of pest: the stops (`stop_if`, `debt`, the bounds)
 -- and the number of rounds that a loop is given (`most_rounds`; see `loop`).
-use Rattle.std.specs.Prelude.{Bool, true, false, ◌&&◌, ◌||◌, not, List, [], ◌∷◌, ◌++◌, reverse, ℕ, zero, suc, ◌+◌, ◌-◌, min, ℤ, pos, negsuc, ◌+ℤ◌, length, get_or, take, drop, set, eqb, ltb, leb, if◌then◌else◌}
+use Rattle.std.specs.Prelude.{Bool, true, false, ◌&&◌, ◌||◌, not, List, [], ◌∷◌, ◌++◌, reverse, ℕ, zero, suc, ◌+◌, ◌-◌, min, ℤ, pos, negsuc}
+use Rattle.std.specs.Prelude.{◌+ℤ◌, length, get_or, take, drop, set, eqb, ltb, leb, if◌then◌else◌}
 use Rattle.std.specs.Prelude.{Option, None, Some}
 use Rattle.std.specs.Int.Signed.{lt_z, non_neg}
 use Rattle.matching.specs.Utf8.{decode, within}
@@ -116,7 +117,10 @@ enter_with_stack count_call space t =
     if is_set t.limit_reached then record { answer = false; tracker = t }
     else if count_call && exceeded t.current_call_limit then reached LimitKind.Call t
     else if short_of_stack space then reached LimitKind.Stack t
-    else record { answer = true; tracker = record t { current_call_limit = if count_call then one_more t.current_call_limit else t.current_call_limit } }
+    else record {
+      answer = true;
+      tracker = record t { current_call_limit = if count_call then one_more t.current_call_limit else t.current_call_limit };
+    }
 
 -- Document 01's stand-in: "gives `Some(0)` when the open calls number the depth limit or more, else `None`".
 abbrev pub remaining_stack : (room : Bool) → Option ℕ
@@ -240,13 +244,15 @@ module _ (g : Setting) (bounded : Bool) where
   push_token line t m k = stop_if (bounded && leb g.capacity (length m.queue)) (TokensFull line) (λ _. k (set_queue (m.queue ++ (t ∷ [])) m))
 
   -- `attempts.push`, in `track`
-  abbrev pub tracking : (due : Bool) → (line rule p pos_index neg_index prev_attempts : ℕ) → ParserState → (ParserState → Ending ParserState) → Ending ParserState
+  abbrev pub tracking : (due : Bool) → (line rule p pos_index neg_index prev_attempts : ℕ) → ParserState
+      → (ParserState → Ending ParserState) → Ending ParserState
   tracking due line r p pi ni prev m k =
       elim (due && not (is_atomic m.atomicity)) [
         | false ↦ k m
         | true ↦
             let n : ParserState = track r p pi ni prev m in
-            stop_if (bounded && (ltb most_attempts (length n.pos_attempts) || ltb most_attempts (length n.neg_attempts))) (AttemptsFull line) (λ _. k n)
+            stop_if (bounded && (ltb most_attempts (length n.pos_attempts) || ltb most_attempts (length n.neg_attempts)))
+                (AttemptsFull line) (λ _. k n)
       ]
 
   abbrev pub close_rule : (line rule index : ℕ) → ParserState → Ending ParserState
@@ -261,7 +267,8 @@ module _ (g : Setting) (bounded : Bool) where
 
   abbrev pub rule_end : (line rule p index pos_index neg_index attempts : ℕ) → Ending ParserState → Ending ParserState
   rule_end line r p index pi ni attempts (Ok m) = tracking (is_negative m.lookahead) line r p pi ni attempts m (λ t. close_rule line r index t)
-  rule_end line r p index pi ni attempts (Err m) = tracking (not (is_negative m.lookahead)) line r p pi ni attempts m (λ t. Err (if produces t then set_queue (take index t.queue) t else t))
+  rule_end line r p index pi ni attempts (Err m) = tracking (not (is_negative m.lookahead)) line r p pi ni attempts m (λ t.
+      Err (if produces t then set_queue (take index t.queue) t else t))
   rule_end line r p index pi ni attempts (Stop c) = Stop c
 
   abbrev pub rule_start : (line rule pos_index neg_index : ℕ) → (ParserState → Ending ParserState) → (before after : ParserState) → Ending ParserState
@@ -452,7 +459,8 @@ module _ (input : List ℕ) where
   module _ (bounded : Bool) where
     abbrev pub push_end : (line start : ℕ) → Ending ParserState → Ending ParserState
     push_end line start (Ok m) =
-        stop_if (bounded && leb most_entries (length m.stack.cache)) (StackFull line) (λ _. Ok (set_stack (push (record { start = start; end = m.position }) m.stack) m))
+        stop_if (bounded && leb most_entries (length m.stack.cache)) (StackFull line) (λ _.
+            Ok (set_stack (push (record { start = start; end = m.position }) m.stack) m))
     push_end line start (Err m) = Err m
     push_end line start (Stop c) = Stop c
 

@@ -1,6 +1,7 @@
 -- Document 01's reading: what it threads, and how each node is evaluated. pest's own state is in Pest, whose header
 -- names what it takes from here.
-use Rattle.std.specs.Prelude.{Bool, true, false, ◌&&◌, ◌||◌, not, List, [], ◌∷◌, ◌++◌, reverse, ℕ, zero, suc, ◌+◌, ◌-◌, min, ℤ, pos, negsuc, length, take, drop, eqb, ltb, leb, if◌then◌else◌}
+use Rattle.std.specs.Prelude.{Bool, true, false, ◌&&◌, ◌||◌, not, List, [], ◌∷◌, ◌++◌, reverse, ℕ, zero, suc, ◌+◌, ◌-◌, min, ℤ, pos, negsuc}
+use Rattle.std.specs.Prelude.{length, take, drop, eqb, ltb, leb, if◌then◌else◌}
 use Rattle.std.specs.Prelude.{Option, None, Some}
 use Rattle.matching.specs.Position as Position
 use Rattle.reading.specs.declared.parser_state.Lookahead.{Lookahead}
@@ -12,7 +13,9 @@ use Rattle.reading.specs.declared.parser_state.Cause.TheVariants.{EmptyStack, To
 use Rattle.reading.specs.declared.call_limit_tracker.LimitKind.{LimitKind}
 use Rattle.reading.specs.declared.call_limit_tracker.LimitKind.TheVariants.{Call, Stack}
 use Rattle.reading.specs.Ending.{Ending, Ok, Err, Stop, on_ok, on_err, stop_if, Span, Checkpoint, is_negative, is_none, is_atomic}
-use Rattle.reading.specs.Grammar.{Exp, match_string, match_insensitive, match_range, skip, end_of_input, and_then, or_else, rule, sequence, repeat, optional, lookahead, atomic, stack_push, stack_pop, stack_match_peek_slice, stack_match_pop, restore_on_err, tag_node, call, RuleLine}
+use Rattle.reading.specs.Grammar.{Exp, match_string, match_insensitive, match_range, skip, end_of_input, and_then, or_else, rule, sequence}
+use Rattle.reading.specs.Grammar.{repeat, optional, lookahead, atomic, stack_push, stack_pop, stack_match_peek_slice, stack_match_pop}
+use Rattle.reading.specs.Grammar.{restore_on_err, tag_node, call, RuleLine}
 use Rattle.reading.specs.Forest.{Forest, empty, add, count, size, cut, tag_last}
 
 -- What stays the same through a run: the text, the rules by their lines, and how many tokens there is room for.
@@ -300,7 +303,8 @@ atomic_end s (Stop c) = Stop c
 -- "Push adds the span on Ok." "entry 129" stops.
 abbrev pub push_end : (line : ℕ) → State → Ending State → Ending State
 push_end line s (Ok t) =
-    stop_if (leb most_entries (length t.stack)) (StackFull line) (λ _. Ok (with_stack (record { start = s.position; end = t.position } ∷ t.stack) t.checkpoints t))
+    stop_if (leb most_entries (length t.stack)) (StackFull line) (λ _.
+        Ok (with_stack (record { start = s.position; end = t.position } ∷ t.stack) t.checkpoints t))
 push_end line s (Err t) = Err t
 push_end line s (Stop c) = Stop c
 

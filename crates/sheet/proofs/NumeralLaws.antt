@@ -122,7 +122,8 @@ natural_by (b ∷ c ∷ s) n h l e = rw (ne_eqb b 48 (λ z. omega (arith, l.nonz
 pub natural_numeral : (n : ℕ) → natural (numeral n) ≡ Some n
 unfolding numeral natural spelled
 natural_numeral zero = decimal_by 1 0 (omega arith)
-natural_numeral (suc n) = natural_by (spelled (suc (suc n)) (suc n)) (suc n) (omega arith) (leads (suc n)) (decimal_by (suc (suc n)) (suc n) (omega arith))
+natural_numeral (suc n) = natural_by (spelled (suc (suc n)) (suc n)) (suc n) (omega arith) (leads (suc n))
+    (decimal_by (suc (suc n)) (suc n) (omega arith))
 
 positive_small : (n : ℕ) → n < 2147483648 → positive (Some n) ≡ Some (pos n)
 positive_small n h = rw (lt-ltb n 2147483648 h)

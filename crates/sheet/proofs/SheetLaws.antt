@@ -19,7 +19,8 @@ use borrow.Author.Tests.{ltb-true, ltb-false, leb-true, eqb-true, eqb-false, lt-
 use Rattle.engine.specs.declared.state.Outcome.{Outcome}
 use Rattle.sheet.specs.Area.{over}
 use Rattle.sheet.specs.Field.{field}
-use Rattle.sheet.specs.Sheet.{cut, count, lines, ended, lined, columns, line, reads, first_malformed, four, numbers, Reading, refused, read, reading, outcome, area_after, SheetRead}
+use Rattle.sheet.specs.Sheet.{cut, count, lines, ended, lined, columns, line, reads, first_malformed, four, numbers, Reading, refused, read}
+use Rattle.sheet.specs.Sheet.{reading, outcome, area_after, SheetRead}
 use Rattle.std.specs.Option.{is_some}
 use Rattle.std.specs.Simd.{first_chunks}
 use Rattle.sheet.specs.Answers.{unless_zero, malformed_line, lines_if_lined}
@@ -294,7 +295,8 @@ module _ (s : List ℕ) (a : List ℤ) where
       pub left_short : length a < length ls * 4 → SheetRead s a a (record { number = 3; place = 0; count = 0 })
       left_short h = left 3 0 (test_3 s (length a) good fine (omega (arith, counted)))
 
-      pub sheet_read : (b : List ℤ) → length ls * 4 ≤ length a → b ≡ over (numbers ls) a → length b ≡ length a → SheetRead s a b (record { number = 0; place = 0; count = length ls })
+      pub sheet_read : (b : List ℤ) → length ls * 4 ≤ length a → b ≡ over (numbers ls) a → length b ≡ length a
+          → SheetRead s a b (record { number = 0; place = 0; count = length ls })
       sheet_read b h o l =
           let e : reading s (length a) ≡ read (count s) (numbers (lines s)) = test_0 s (length a) good fine (omega (arith, counted)) in
           let w : length ls * 4 ≤ length b = omega arith in
@@ -311,7 +313,8 @@ pub over_put :
     take at (over pre area) ++ (new ++ drop k (drop at (over pre area))) ≡ over (pre ++ new) area
 unfolding over
 over_put pre new area at k e f =
-    rw (take_at pre (drop (length pre) area) at e, drop_at pre (drop (length pre) area) at e, ← f, drop-drop (length new) (length pre) area, append_assoc)
+    rw (take_at pre (drop (length pre) area) at e, drop_at pre (drop (length pre) area) at e, ← f,
+        drop-drop (length new) (length pre) area, append_assoc)
     (ap (λ x. pre ++ (new ++ drop x area)) (sym (length-append pre new)))
 
 -- how far the nodes are written: those of the first i lines, and none of the lines from i on is malformed

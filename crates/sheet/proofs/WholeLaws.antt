@@ -13,7 +13,8 @@ use borrow.Author.Tests.{ltb-true, ltb-false, le-leb, lt-leb}
 use Rattle.engine.specs.declared.state.Outcome.{Outcome}
 use Rattle.sheet.specs.Area.{over}
 use Rattle.sheet.specs.Numeral.{numeral}
-use Rattle.sheet.specs.Listing.{six, fields, line_text, head_line, token_line, rule_line, later_line, later_count, first_lines, listing, whole, Written, ListingWritten}
+use Rattle.sheet.specs.Listing.{six, fields, line_text, head_line, token_line, rule_line, later_line, later_count, first_lines, listing}
+use Rattle.sheet.specs.Listing.{whole, Written, ListingWritten}
 use Rattle.sheet.proofs.SheetLaws.{over_length}
 use Rattle.sheet.proofs.ListingLaws.{shorter, one_digit, six_length, written_none}
 

@@ -1,5 +1,6 @@
 -- Reading a sheet. Document 01, "Sheet and listing" and rows 1 to 3 of "Stops and refusals".
-use Rattle.std.specs.Prelude.{ℕ, zero, suc, ◌*◌, ◌/◌, ◌%◌, ◌≤◌, ◌≡◌, Bool, true, false, cond, not, ◌&&◌, List, [], ◌∷◌, ◌++◌, ◌==◌, ltb, leb, eqb, ℤ, length, slice_index, take, drop}
+use Rattle.std.specs.Prelude.{ℕ, zero, suc, ◌*◌, ◌/◌, ◌%◌, ◌≤◌, ◌≡◌, Bool, true, false, cond, not, ◌&&◌, List, [], ◌∷◌, ◌++◌, ◌==◌, ltb}
+use Rattle.std.specs.Prelude.{leb, eqb, ℤ, length, slice_index, take, drop}
 use Rattle.std.specs.List.{list_all}
 use Rattle.std.specs.Prelude.{Option, None, Some}
 use Rattle.engine.specs.declared.state.Outcome.{Outcome}

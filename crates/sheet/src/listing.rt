@@ -1,7 +1,8 @@
 // What planread prints, as bytes at the start of a lent area. A line has at most 61 bytes: six fields of ten digits and its end.
 ghost use Rattle.std.specs.Prelude.{◌≡◌, cond, ◌+◌, ◌-◌, ◌*◌, ◌≤◌, ◌<◌, ltb, length, get_or};
 ghost use Rattle.std.proofs.lemmas.List.Edits.{sets};
-ghost use Rattle.sheet.specs.Listing.{six, fields, line_text, head_line, token_line, rule_line, later_line, later_count, listing, whole, Written, ListingWritten};
+ghost use Rattle.sheet.specs.Listing.{six, fields, line_text, head_line, token_line, rule_line, later_line, later_count, listing, whole};
+ghost use Rattle.sheet.specs.Listing.{Written, ListingWritten};
 
 use crate::numeral::{digits, put_numeral};
 use engine::state::Outcome;

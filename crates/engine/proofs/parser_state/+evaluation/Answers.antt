@@ -33,12 +33,14 @@ atomic-returns-in_default t c =
 
 pub atomic-node-r-requires : goal.atomic-node-r-requires
 atomic-node-r-requires t c =
-    let o = let_in (atomic_at c.args.g.now c.requires.ready c.line_at-n.ensures c.requires.line c.atomicity_of-s.ensures) c.enter.ensures c.in-Some.is in
+    let o = let_in (atomic_at c.args.g.now c.requires.ready c.line_at-n.ensures c.requires.line c.atomicity_of-s.ensures) c.enter.ensures
+            c.in-Some.is in
     calls o c.decreases (ready_atom _ _ _ _ (less o) c.atomicity_of-s.result)
 
 pub atomic-returns : goal.atomic-returns
 atomic-returns t c =
-    let o = let_in (atomic_at c.args.g.now c.requires.ready c.line_at-n.ensures c.requires.line c.atomicity_of-s.ensures) c.enter.ensures c.in-Some.is in
+    let o = let_in (atomic_at c.args.g.now c.requires.ready c.line_at-n.ensures c.requires.line c.atomicity_of-s.ensures) c.enter.ensures
+            c.in-Some.is in
     on_tree o.over
     (atomic_step _ _ _ _ _ _ o.entry (ready_atom _ _ _ _ (less o) _) c.node-r.ensures refl
     (c.atomic_end.ensures c.node-r.new.tokens c.node-r.new.scratch))
@@ -56,7 +58,8 @@ left_side-simple-e-requires t c = (
 )
 
 pub left_side-loop-k-init : goal.left_side-loop-k-init
-left_side-loop-k-init t c = (c.descend-low.result.count, refl, first_climb _ _ _ _ _ c.requires.ready c.requires.line c.descend-low.ensures c.simple-e.ensures)
+left_side-loop-k-init t c = (c.descend-low.result.count, refl,
+    first_climb _ _ _ _ _ c.requires.ready c.requires.line c.descend-low.ensures c.simple-e.ensures)
 
 pub left_side-spine_at-l-requires : goal.left_side-spine_at-l-requires
 left_side-spine_at-l-requires t c = (
@@ -95,7 +98,8 @@ left_side-loop-k-preserved t c =
       | left_side-else-goes_right w ↦ rw (w.tokens-is, w.scratch-is, w.s-is, w.e-is) (
         c.descend-low.result.count - c.loop-k.k,
         omega arith,
-        climb_stay _ _ _ _ _ c.requires.ready c.requires.line c.descend-low.ensures c.simple-e.auto.tokens c.simple-e.auto.scratch c.loop-k.invariant.2
+        climb_stay _ _ _ _ _ c.requires.ready c.requires.line c.descend-low.ensures c.simple-e.auto.tokens c.simple-e.auto.scratch
+            c.loop-k.invariant.2
             (c.descend-low.result.count - c.loop-k.k) (omega (arith, c.loop-k.invariant.1)) (omega arith) c.spine_at-l.ensures c.line_at-n.ensures
             (goes_no _ _ _ _ _ (sym c.goes_right.ensures ∙ w.if-goes_right.false)),
       )
@@ -250,7 +254,8 @@ pub repeat-returns-in-Err : goal.repeat-returns-in-Err
 repeat-returns-in-Err t c =
     let o = let_in (repeat_at c.args.g.now c.requires.ready c.line_at-n.ensures c.requires.line) c.enter.ensures c.in-Some.is in
     on_tree o.over
-    (repeat_err _ _ _ _ _ _ c.loop-s.invariant o.entry (told _ _ _ c.node.ensures c.in-Err.is) (c.forgiven.ensures c.node.new.tokens c.node.new.scratch))
+    (repeat_err _ _ _ _ _ _ c.loop-s.invariant o.entry (told _ _ _ c.node.ensures c.in-Err.is)
+        (c.forgiven.ensures c.node.new.tokens c.node.new.scratch))
 
 pub repeat-returns-in-Stop : goal.repeat-returns-in-Stop
 repeat-returns-in-Stop t c =
@@ -285,7 +290,8 @@ pub restore_on_err-returns : goal.restore_on_err-returns
 restore_on_err-returns t c =
     let o = let_in (restore_at c.args.g.now c.requires.ready c.line_at-n.ensures c.requires.line) c.enter.ensures c.in-Some.is in
     on_tree o.over
-    (restore_step _ _ _ _ _ o.entry (c.checkpoint.ensures.state_after c.args.tokens.now) c.node-r.ensures (c.restore_on_err_end.ensures c.node-r.new.tokens))
+    (restore_step _ _ _ _ _ o.entry (c.checkpoint.ensures.state_after c.args.tokens.now) c.node-r.ensures
+        (c.restore_on_err_end.ensures c.node-r.new.tokens))
 
 -- ── rule ──
 -- An open entry, the rule's Start, the body, `rule_end` from what was noted before: put together by `rule_step`.

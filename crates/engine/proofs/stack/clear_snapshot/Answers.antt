@@ -17,7 +17,8 @@ pub overflow_sub-result : goal.overflow_sub-result
 overflow_sub-result c = let t = top_is c.args.scratch.now c.args.s c.requires c.if-c-eq0.false _ c.pair_at-tall.ensures in omega arith
 
 pub returns-then-c-eq1-clause-state_after : goal.returns-then-c-eq1-clause-state_after
-returns-then-c-eq1-clause-state_after c = (clear_one c.args.scratch.now c.args.s c.requires c.if-c-eq0.false _ c.pair_at-tall.ensures c.if-c-eq1.true).0
+returns-then-c-eq1-clause-state_after c = (clear_one c.args.scratch.now c.args.s c.requires c.if-c-eq0.false _ c.pair_at-tall.ensures
+    c.if-c-eq1.true).0
 
 pub overflow_sub-from : goal.overflow_sub-from
 overflow_sub-from c =

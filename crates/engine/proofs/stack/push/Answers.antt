@@ -11,4 +11,5 @@ returns-then-h-lt-MOST_ENTRIES-clause-outside_stack c =
     (push_ok c.args.scratch.now c.args.s c.requires c.args.start c.args.end _ c.if-h-lt-MOST_ENTRIES.true c.put_pair.ensures).1
 
 pub returns-else-h-lt-MOST_ENTRIES-clause-state_after : goal.returns-else-h-lt-MOST_ENTRIES-clause-state_after
-returns-else-h-lt-MOST_ENTRIES-clause-state_after c = (push_full c.args.scratch.now c.args.s c.requires c.args.start c.args.end c.if-h-lt-MOST_ENTRIES.false).0
+returns-else-h-lt-MOST_ENTRIES-clause-state_after c =
+    (push_full c.args.scratch.now c.args.s c.requires c.args.start c.args.end c.if-h-lt-MOST_ENTRIES.false).0

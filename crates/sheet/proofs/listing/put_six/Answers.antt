@@ -21,6 +21,7 @@ put_numeral-requires c = (
 
 pub returns : goal.returns
 returns c = (
-  six_put _ _ _ _ _ _ _ _ c.width.ensures c.digits.ensures (omega arith) (c.fill.ensures.after (λ y e. e)) c.put_numeral.ensures.0 c.put_numeral.ensures.1,
+  six_put _ _ _ _ _ _ _ _ c.width.ensures c.digits.ensures (omega arith) (c.fill.ensures.after (λ y e. e)) c.put_numeral.ensures.0
+      c.put_numeral.ensures.1,
   omega arith,
 )

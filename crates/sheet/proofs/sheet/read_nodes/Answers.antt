@@ -21,7 +21,8 @@ pub returns-in-Some : goal.returns-in-Some
 returns-in-Some c = left_malformed _ _ _ (ap option_copied (sym c.in_ok-lines.ensures.ok_part) ∙ c.lines.ensures) _ c.in-Some.ensures
 
 pub returns-then-nodes-lines : goal.returns-then-nodes-lines
-returns-then-nodes-lines c = left_short _ _ _ (ap option_copied (sym c.in_ok-lines.ensures.ok_part) ∙ c.lines.ensures) c.in_default.ensures c.if-nodes-lines.true
+returns-then-nodes-lines c = left_short _ _ _ (ap option_copied (sym c.in_ok-lines.ensures.ok_part)
+    ∙ c.lines.ensures) c.in_default.ensures c.if-nodes-lines.true
 
 pub overflow_cast-result : goal.overflow_cast-result
 overflow_cast-result c = omega (arith, lines_few _ c.args.nodes.now _ (ap option_copied (sym c.in_ok-lines.ensures.ok_part) ∙ c.lines.ensures))
