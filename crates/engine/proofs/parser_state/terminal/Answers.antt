@@ -36,8 +36,8 @@ returns-in-15 c =
 pub returns-in-16 : goal.returns-in-16
 returns-in-16 c =
     end_16 _ _ _ _ _ (tests _ _ _ _ c.requires.ready) _ c.requires.line.0 _ c.line_at-n.ensures c.in-16.is
-    c.ends_at-e.result c.ends_at-e.ensures _ _ (back c.ends_at-e.result.start (record { sfits = c.struct_told-1.given.0.1 }))
-    (back c.ends_at-e.result.end (record { sfits = c.struct_told-1.given.1.0.1 })) _ _ (c.stack_match_peek_slice.ensures c.args.tokens.now)
+    c.ends_at-e.result c.ends_at-e.ensures _ _ (back c.ends_at-e.result.start (search rules)) (back c.ends_at-e.result.end (search rules))
+    _ _ (c.stack_match_peek_slice.ensures c.args.tokens.now)
 
 pub returns-in-17 : goal.returns-in-17
 returns-in-17 c =
