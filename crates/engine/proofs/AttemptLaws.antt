@@ -90,9 +90,11 @@ module _ (a : List ℕ) (t : Attempts) (p r : ℕ) (neg : Bool) (lent : Lent a t
   ns = numbers a negatives_at y
 
   pub append_off : (p ≡ f → ⊥) → (Some (tried a t) ≡ within (appended r p neg (tried a t))) × Outside positives_at lengths_at a a
-  append_off e =
-      (within_few (tried a t) (omega (arith, lent.few.few_positives, numbers_length a positives_at x))
-          (omega (arith, lent.few.few_negatives, numbers_length a negatives_at y)) ∙ ap within (sym off), outside_refl a)
+  append_off e = (
+    within_few (tried a t) (omega (arith, lent.few.few_positives, numbers_length a positives_at x))
+        (omega (arith, lent.few.few_negatives, numbers_length a negatives_at y)) ∙ ap within (sym off),
+    outside_refl a,
+  )
     where
       off : appended r p neg (tried a t) ≡ tried a t
       off = rw (ne_eqb p f e)
@@ -106,7 +108,7 @@ module _ (a : List ℕ) (t : Attempts) (p r : ℕ) (neg : Bool) (lent : Lent a t
   -- What `push` answers decides the list that it was asked for, and the other is as it was.
   pub append_negative : (b : List ℕ) (o : Option ℕ) → p ≡ f → neg ≡ true → PushedAt negatives_at y r a b o
       → (option_map (λ (n : ℕ). tried b (record { furthest = t.furthest; positives = x; negatives = n })) o
-          ≡ within (appended r p neg (tried a t))) × Outside positives_at lengths_at a b
+      ≡ within (appended r p neg (tried a t))) × Outside positives_at lengths_at a b
   append_negative b None e q (full, same) =
       let s : Tried = record { furthest = f; positive = ps; negative = ns ++ (r ∷ []) } in (
         within_full_negative s (omega (arith, lent.few.few_positives, numbers_length a positives_at x))
@@ -118,10 +120,10 @@ module _ (a : List ℕ) (t : Attempts) (p r : ℕ) (neg : Bool) (lent : Lent a t
       let size : 4864 ≤ length a = lent.room in
       let o : Outside (negatives_at + y) (negatives_at + y + 1) a b = rw is (outside_set a (negatives_at + y) r) in
       let kept : numbers b positives_at x ≡ ps =
-              sym (numbers_same a b positives_at x (same_below positives_at (positives_at + x) (omega (arith, lent.few.few_positives)) o)) in
+      sym (numbers_same a b positives_at x (same_below positives_at (positives_at + x) (omega (arith, lent.few.few_positives)) o)) in
       let grown : numbers b negatives_at n ≡ ns ++ (r ∷ []) = rw (is, more) (numbers_set a negatives_at y r (omega arith)) in
       let same : tried b (record { furthest = t.furthest; positives = x; negatives = n }) ≡ appended r p neg (tried a t) =
-              tried_ext refl kept grown ∙ sym (negative_is e q) in (
+      tried_ext refl kept grown ∙ sym (negative_is e q) in (
         within_few _ (omega (arith, lent.few.few_positives, numbers_length b positives_at x))
             (omega (arith, numbers_length b negatives_at n)) ∙ ap within same,
         outside_wider (omega arith) (omega arith) o,
@@ -129,7 +131,7 @@ module _ (a : List ℕ) (t : Attempts) (p r : ℕ) (neg : Bool) (lent : Lent a t
 
   pub append_positive : (b : List ℕ) (o : Option ℕ) → p ≡ f → neg ≡ false → PushedAt positives_at x r a b o
       → (option_map (λ (n : ℕ). tried b (record { furthest = t.furthest; positives = n; negatives = y })) o
-          ≡ within (appended r p neg (tried a t))) × Outside positives_at lengths_at a b
+      ≡ within (appended r p neg (tried a t))) × Outside positives_at lengths_at a b
   append_positive b None e q (full, same) =
       let s : Tried = record { furthest = f; positive = ps ++ (r ∷ []); negative = ns } in (
         within_full_positive s (omega (arith, numbers_length a positives_at x, length-append ps (r ∷ []))) ∙ ap within (sym (positive_is e q)),
@@ -141,7 +143,7 @@ module _ (a : List ℕ) (t : Attempts) (p r : ℕ) (neg : Bool) (lent : Lent a t
       let kept : numbers b negatives_at y ≡ ns = sym (numbers_same a b negatives_at y (same_above negatives_at (negatives_at + y) (omega arith) o)) in
       let grown : numbers b positives_at n ≡ ps ++ (r ∷ []) = rw (is, more) (numbers_set a positives_at x r (omega arith)) in
       let same : tried b (record { furthest = t.furthest; positives = n; negatives = y }) ≡ appended r p neg (tried a t) =
-              tried_ext refl grown kept ∙ sym (positive_is e q) in (
+      tried_ext refl grown kept ∙ sym (positive_is e q) in (
         within_few _ (omega (arith, numbers_length b positives_at n))
             (omega (arith, lent.few.few_negatives, numbers_length b negatives_at y)) ∙ ap within same,
         outside_wider (omega arith) (omega arith) o,
@@ -204,7 +206,7 @@ pub track_is : (r p : ℕ) (n : Noted) (m : ParserState) → is_atomic m.atomici
 track_is r p n m e =
     rw e
     (ap (λ (s : ParserState). if grew n (noted p (tried_of m)) then m else Pest.push_attempt r p (Pest.advance_attempts p s))
-        (truncate_is r p n (tried_of m) m)
+    (truncate_is r p n (tried_of m) m)
     ∙ ap (λ (s : ParserState). if grew n (noted p (tried_of m)) then m else Pest.push_attempt r p s) (advance_is r p n (truncated p n (tried_of m)) m)
     ∙ ap (λ (s : ParserState). if grew n (noted p (tried_of m)) then m else s) (push_is r p n (advanced p (truncated p n (tried_of m))) m)
     ∙ with_if (grew n (noted p (tried_of m))) (tried_of m) _ m)

@@ -136,12 +136,12 @@ module _ (ns : List ℤ) (literals text : List ℕ) (capacity d : ℕ) (k : Fork
   unfolding step
   fork_eval l m lo hi (inl e) =
       going_and (at_line (right_of ns l)) (kind_at ns l) e (at_line (left_of ns l) m)
-          ∙ sym (ap (λ (x : Exp). evaluated ns literals text capacity d x m) (k.and_tree l lo hi e)
-          ∙ eval_and (tree_at ns literals (left_of ns l)) (tree_at ns literals (right_of ns l)) m)
+      ∙ sym (ap (λ (x : Exp). evaluated ns literals text capacity d x m) (k.and_tree l lo hi e)
+      ∙ eval_and (tree_at ns literals (left_of ns l)) (tree_at ns literals (right_of ns l)) m)
   fork_eval l m lo hi (inr e) =
       going_or (at_line (right_of ns l)) (kind_at ns l) e (at_line (left_of ns l) m)
-          ∙ sym (ap (λ (x : Exp). evaluated ns literals text capacity d x m) (k.or_tree l lo hi e)
-          ∙ eval_or (tree_at ns literals (left_of ns l)) (tree_at ns literals (right_of ns l)) m)
+      ∙ sym (ap (λ (x : Exp). evaluated ns literals text capacity d x m) (k.or_tree l lo hi e)
+      ∙ eval_or (tree_at ns literals (left_of ns l)) (tree_at ns literals (right_of ns l)) m)
 
   module _ (top : ℕ) (lo : 1 ≤ top) (hi : top ≤ line_count ns) where
     pub slopes : Slopes ns top
@@ -180,13 +180,13 @@ module _ (ns : List ℤ) (literals text : List ℕ) (capacity d : ℕ) (k : Fork
       -- One line up: what its right side makes of its left side's ending.
       pub climb_runs : (m : ParserState) (i : ℕ) (x : Ending ParserState) → 1 ≤ i → i ≤ p.count → x ≡ at_line (spine_line ns top i) m
           → (l : ℕ) → l ≡ spine_line ns top (i - 1) → (n : Line) → n ≡ line_of (node_at ns l) → (y : Ending ParserState)
-              → y ≡ onto (at_line n.b) (going n.kind x) → y ≡ at_line (spine_line ns top (i - 1)) m
+          → y ≡ onto (at_line n.b) (going n.kind x) → y ≡ at_line (spine_line ns top (i - 1)) m
       climb_runs m i x lo₁ hi₁ r l q n e y f =
           let v = spine_in ns top slopes (i - 1) (forks_below (i - 1) (omega arith)) in
           let u : i ≡ i - 1 + 1 = omega arith in
           f ∙ step_of l n x e ∙ ap (λ (z : ℕ). step z x) q
           ∙ ap (step (spine_line ns top (i - 1))) (r ∙ ap (λ (j : ℕ). at_line (spine_line ns top j) m) u
-              ∙ ap (λ (l : ℕ). at_line l m) (spine_next ns top (i - 1)))
+          ∙ ap (λ (l : ℕ). at_line l m) (spine_next ns top (i - 1)))
           ∙ fork_eval (spine_line ns top (i - 1)) m v.0 (omega (arith, v.1)) (w.forks (i - 1) (omega arith))
 
   -- The top line, from the ending of its left side.

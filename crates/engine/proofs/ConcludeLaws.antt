@@ -43,5 +43,5 @@ rules_few a at n = omega (arith, ascending_length (numbers a at n), numbers_leng
 -- ── An outcome by its parts ──
 pub outcome_ext : {k p c c' : ℕ} {t t' r r' : List ℕ} → c ≡ c' → t ≡ t' → r ≡ r'
     → ◌≡◌ {A = Outcome} (record { number = k; place = p; count = c; tokens = t; report = r })
-        (record { number = k; place = p; count = c'; tokens = t'; report = r' })
+    (record { number = k; place = p; count = c'; tokens = t'; report = r' })
 outcome_ext {k = k} {p = p} a b d = λ i. record { number = k; place = p; count = a i; tokens = b i; report = d i }

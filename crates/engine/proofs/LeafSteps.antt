@@ -79,7 +79,7 @@ module _ (ns : List ℤ) (literals text : List ℕ) (capacity d : ℕ) (w : Acce
     leaf_5 q r z =
         end_5 ns literals text capacity d w l i n e q m (Pest.moved (match_of r) m)
         (ap (λ (o : Option ℕ). Pest.moved o m) (z ∙ ap (λ (k : ℕ). if Position.at_end text k then Some k else None) (sym x))
-            ∙ at_end_moves (Position.at_end text m.position) m)
+        ∙ at_end_moves (Position.at_end text m.position) m)
 
   -- The kind that is left; `rest` as the code's match gives it.
   pub fifth : kind_at ns l ≤ 5 → (((Unit {0} × (n.kind ≡ 1 → ⊥)) × (n.kind ≡ 2 → ⊥)) × (n.kind ≡ 3 → ⊥)) × (n.kind ≡ 4 → ⊥) → n.kind ≡ 5

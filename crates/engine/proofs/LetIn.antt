@@ -38,7 +38,7 @@ pub record Over (g : Setting) (f : Exp → Exp) (tokens scratch : List ℕ) (dep
 -- What is evaluated of the tree is evaluated of the line.
 pub on_tree : {g : Setting} {f : Exp → Exp} {tokens scratch : List ℕ} {depth line below : ℕ} {m : Pest.ParserState}
     → Over g f tokens scratch depth line below m → {r : Ending Pest.ParserState}
-        → r ≡ evaluated g.nodes.now g.literals.now g.text.now g.room depth (f (tree_at g.nodes.now g.literals.now below)) m
+    → r ≡ evaluated g.nodes.now g.literals.now g.text.now g.room depth (f (tree_at g.nodes.now g.literals.now below)) m
     → r ≡ evaluates g depth line m
 on_tree {g} {depth = d} {m = m} w e = e ∙ ap (λ (x : Exp). evaluated g.nodes.now g.literals.now g.text.now g.room d x m) (sym w.tree)
 

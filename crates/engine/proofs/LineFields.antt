@@ -20,7 +20,7 @@ module _ (ns : List ℤ) (l : ℕ) where
   pub line_read : {k a b c : ℕ} → mag (field (l * 4 - 4)) < 2 ^ 31 → mag (field (l * 4 - 3)) < 2 ^ 31 → mag (field (l * 4 - 2)) < 2 ^ 31
       → mag (field (l * 4 - 1)) < 2 ^ 31
       → k ≡ natural (to_z w32 (of_z w32 (field (l * 4 - 4)))) → a ≡ natural (to_z w32 (of_z w32 (field (l * 4 - 3))))
-          → b ≡ natural (to_z w32 (of_z w32 (field (l * 4 - 2)))) → c ≡ natural (to_z w32 (of_z w32 (field (l * 4 - 1))))
+      → b ≡ natural (to_z w32 (of_z w32 (field (l * 4 - 2)))) → c ≡ natural (to_z w32 (of_z w32 (field (l * 4 - 1))))
       → ◌≡◌ {A = Line} record { kind = k; a = a; b = b; c = c } (line_of (node_at ns l))
   unfolding node_at
   line_read f₁ f₂ f₃ f₄ e₁ e₂ e₃ e₄ = λ i.
@@ -33,6 +33,6 @@ module _ (ns : List ℤ) (l : ℕ) where
 
   pub ends_read : mag (field (l * 4 - 3)) < 2 ^ 31 → mag (field (l * 4 - 2)) < 2 ^ 31
       → ◌≡◌ {A = Ends} record { start = to_z w32 (of_z w32 (field (l * 4 - 3))); end = to_z w32 (of_z w32 (field (l * 4 - 2))) }
-          (ends_of (node_at ns l))
+      (ends_of (node_at ns l))
   unfolding node_at
   ends_read f g = λ i. record { start = read_back (field (l * 4 - 3)) f i; end = read_back (field (l * 4 - 2)) g i }

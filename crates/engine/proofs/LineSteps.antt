@@ -121,7 +121,7 @@ by_tree ns literals text capacity d x y m r e f = f ∙ ap (λ (z : Exp). evalua
 -- A call is evaluated as its rule.
 call_is : (ns : List ℤ) (literals text : List ℕ) (capacity d a : ℕ) (m : ParserState)
     → evaluated ns literals text capacity d (Grammar.rule a (natural (node_at ns a).a) (tree_at ns literals (natural (node_at ns a).b))) m
-        ≡ evaluated ns literals text capacity d (Grammar.call a) m
+    ≡ evaluated ns literals text capacity d (Grammar.call a) m
 unfolding evaluated
 call_is ns literals text capacity d a m = go d
   where
@@ -138,7 +138,7 @@ module _ (ns : List ℤ) (literals : List ℕ) (w : Accepted ns literals) (l : �
       let v : Line ns n.a × (kind_at ns n.a ≡ 8) = called_line ns literals w l i n e q in
       by_tree ns literals text capacity d _ _ m r (at_20 ns literals w l i n e q)
       (f ∙ ap (λ (x : Exp). evaluated ns literals text capacity d x m) (at_8 ns literals w n.a v.0 (line_of (node_at ns n.a)) refl v.1).2
-          ∙ call_is ns literals text capacity d n.a m)
+      ∙ call_is ns literals text capacity d n.a m)
 
   -- A line of kind 8 or 20, by the line of its rule.
   module _ (k : (n.kind ≡ 8) ⊎ (n.kind ≡ 20)) (v : ℕ) (h : v ≡ (if eqb n.kind 20 then n.a else l)) where

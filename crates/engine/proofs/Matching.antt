@@ -30,8 +30,11 @@ module _ (input l : List ℕ) (p : ℕ) where
     where
       go : Dec (p + length l ≤ length input) → Pest.match_string input l p ≡ match_string input l p
       go (yes h) =
-          rw (le-leb (p + length l) (length input) h, le-leb p (length input) (omega arith),
-              same_starts eqb l (drop p input) (omega (arith, length-drop p input)))
+          rw (
+            le-leb (p + length l) (length input) h,
+            le-leb p (length input) (omega arith),
+            same_starts eqb l (drop p input) (omega (arith, length-drop p input)),
+          )
           (if_cond (starts_by eqb l (drop p input)) (p + length l))
       go (no h) = rw (lt-leb (p + length l) (length input) (omega arith)) (short (dec_le p (length input)))
         where

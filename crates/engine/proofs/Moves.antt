@@ -36,7 +36,7 @@ refilled_outside a low p zero = outside_refl a
 refilled_outside a low p (suc n) =
     outside_trans (outside_wider (omega arith) (omega arith) (refilled_outside a low p n))
     (outside_wider (omega arith) (omega arith) (outside_put (refilled a low p n) (0 + (low + n) * 2)
-        (get_or (refilled a low p n) (256 + (p - n - 1) * 2) 0) (get_or (refilled a low p n) (256 + (p - n - 1) * 2 + 1) 0)))
+    (get_or (refilled a low p n) (256 + (p - n - 1) * 2) 0) (get_or (refilled a low p n) (256 + (p - n - 1) * 2 + 1) 0)))
 
 -- What `copy_within` says, at the number of numbers that it moves.
 pub drained_by : (a b : List ℕ) (to from n k : ℕ) → k ≡ n * 2 → length b ≡ length a
@@ -59,9 +59,9 @@ drained_pairs a b to from n (suc m) d h =
     let j : 256 + from * 2 + (256 + (to + m) * 2 - (256 + to * 2)) ≡ 256 + (from + m) * 2 = omega arith in
     let i : 256 + from * 2 + (256 + (to + m) * 2 + 1 - (256 + to * 2)) ≡ 256 + (from + m) * 2 + 1 = omega arith in
     let x : get_or b (256 + (to + m) * 2) 0 ≡ get_or a (256 + (from + m) * 2) 0 =
-            d.moved (256 + (to + m) * 2) 0 (omega arith) (omega arith) ∙ ap (λ (k : ℕ). get_or a k 0) j in
+    d.moved (256 + (to + m) * 2) 0 (omega arith) (omega arith) ∙ ap (λ (k : ℕ). get_or a k 0) j in
     let y : get_or b (256 + (to + m) * 2 + 1) 0 ≡ get_or a (256 + (from + m) * 2 + 1) 0 =
-            d.moved (256 + (to + m) * 2 + 1) 0 (omega arith) (omega arith) ∙ ap (λ (k : ℕ). get_or a k 0) i in
+    d.moved (256 + (to + m) * 2 + 1) 0 (omega arith) (omega arith) ∙ ap (λ (k : ℕ). get_or a k 0) i in
     ap (λ (k : ℕ). pairs span b 256 k) e
     ∙ ap₂ (λ (u : Span) (l : List Span). u ∷ l) (ap₂ span x y) (drained_pairs a b to from n m d (omega arith))
     ∙ ap (λ (k : ℕ). take (suc m) (pairs span a 256 k) ++ pairs span a 256 to) (sym e₂)
@@ -81,7 +81,7 @@ refilled_pairs a low p (suc n) h g f =
     let q : List Span = pairs span a 256 p in
     let at : get_or q n u ≡ u = pairs_getD span a 256 n k p u (omega arith) in
     let more : take (suc n) q ≡ take n q ++ (u ∷ []) = take-suc q n u (omega (arith, pairs_length span a 256 p))
-            ∙ ap (λ (w : Span). take n q ++ (w ∷ [])) at in
+    ∙ ap (λ (w : Span). take n q ++ (w ∷ [])) at in
     let turned : reverse (take (suc n) q) ≡ u ∷ reverse (take n q) = ap (λ (l : List Span). reverse l) more ∙ reverse-append (take n q) (u ∷ []) in
     ap (λ (m : ℕ). pairs span (refilled a low p (suc n)) 0 m) e
     ∙ pairs_put span d 0 (low + n) (get_or d (256 + k * 2) 0) (get_or d (256 + k * 2 + 1) 0) (omega (arith, o.size))

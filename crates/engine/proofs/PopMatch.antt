@@ -73,7 +73,7 @@ module _ (v w : Pest.Stack) (x : Span) where
   pub took_sound : Took v w x → Sound v → Sound w
   took_sound t s =
       subst (λ (u : Pest.Stack). Sound u) (sym t.is) (sound_pop x w.cache v t.cache s
-          (subst (λ (u : Pest.Stack). debt u.lengths ≤ 1024) t.is t.owing))
+      (subst (λ (u : Pest.Stack). debt u.lengths ≤ 1024) t.is t.owing))
 
   pub took_lengths : Took v w x → length w.lengths ≡ length v.lengths
   took_lengths t = ap (λ (u : Pest.Stack). length u.lengths) t.is ∙ lengths_pop x w.cache v
@@ -95,16 +95,16 @@ module _ (text : List ℕ) (v : Pest.Stack) (line p : ℕ) (m : ParserState) whe
       go [] n e = absurd (n refl)
       go (y ∷ rest) n e = pick y rest (ltb 1024 (debt (pop y rest v).lengths))
           (λ _. elim (Pest.match_string text (as_str text y) p)
-              [ None ↦ Err (set_stack (pop y rest v) m) | Some q ↦ stack_match_pop text true line rest q (set_stack (pop y rest v) m) ]) e
+          [ None ↦ Err (set_stack (pop y rest v) m) | Some q ↦ stack_match_pop text true line rest q (set_stack (pop y rest v) m) ]) e
 
   module _ (w : Pest.Stack) (x : Span) (t : Took v w x) where
     -- pest's step at a pop that the debt allows
     step : stack_match_pop text true line v.cache p (set_stack v m)
         ≡ elim (Pest.match_string text (as_str text x) p)
-            [ None ↦ Err (set_stack w m) | Some q ↦ stack_match_pop text true line w.cache q (set_stack w m) ]
+        [ None ↦ Err (set_stack w m) | Some q ↦ stack_match_pop text true line w.cache q (set_stack w m) ]
     step =
         let d : ltb 1024 (debt (pop x w.cache v).lengths) ≡ false =
-                subst (λ (u : Pest.Stack). ltb 1024 (debt u.lengths) ≡ false) t.is (le-ltb 1024 (debt w.lengths) t.owing) in
+        subst (λ (u : Pest.Stack). ltb 1024 (debt u.lengths) ≡ false) t.is (le-ltb 1024 (debt w.lengths) t.owing) in
         ap (λ (c : List Span). stack_match_pop text true line c p (set_stack v m)) t.cache
         ∙ pick (ltb 1024 (debt (pop x w.cache v).lengths)) d
         ∙ ap (λ (u : Pest.Stack). after u) (sym t.is)
@@ -122,8 +122,8 @@ module _ (text : List ℕ) (v : Pest.Stack) (line p : ℕ) (m : ParserState) whe
       where
         go : (o : Option ℕ) → o ≡ Some q
             → ◌≡◌ {A = Ending ParserState} (elim o
-                [ None ↦ Err (set_stack w m) | Some r ↦ stack_match_pop text true line w.cache r (set_stack w m) ])
-                (stack_match_pop text true line w.cache q (set_stack w m))
+            [ None ↦ Err (set_stack w m) | Some r ↦ stack_match_pop text true line w.cache r (set_stack w m) ])
+            (stack_match_pop text true line w.cache q (set_stack w m))
         go o e = rw e
 
     pub step_none : Pest.match_string text (as_str text x) p ≡ None → Err (set_stack w m) ≡ stack_match_pop text true line v.cache p (set_stack v m)
@@ -146,7 +146,7 @@ module _ (text bytes : List ℕ) (p : ℕ) where
     unfolding match_by
     bytes_differ l h n =
         let t : false ≡ starts_by eqb bytes (drop p text) =
-                from_fails eqb bytes (drop p text) i f h (ne_eqb _ _ (λ e. n (sym (get_or-drop p text i 0) ∙ sym e))) in
+        from_fails eqb bytes (drop p text) i f h (ne_eqb _ _ (λ e. n (sym (get_or-drop p text i 0) ∙ sym e))) in
         rw (le-leb p (length text) (omega (arith, l)), ← t)
 
     pub bytes_all : p + length bytes ≤ length text → length bytes ≤ i → match_string text bytes p ≡ Some (p + length bytes)
@@ -162,13 +162,13 @@ pub record Going (text a₀ : List ℕ) (s₀ : Stack) (p₀ : ℕ) (a : List �
   pub frame : OutsideStack a₀ a
   pub rest : (line : ℕ) (m : ParserState)
       → stack_match_pop text true line (stack_of a s).cache p (set_stack (stack_of a s) m)
-          ≡ stack_match_pop text true line (stack_of a₀ s₀).cache p₀ (set_stack (stack_of a₀ s₀) m)
+      ≡ stack_match_pop text true line (stack_of a₀ s₀).cache p₀ (set_stack (stack_of a₀ s₀) m)
 
 module _ {text a₀ : List ℕ} {s₀ : Stack} {p₀ : ℕ} {a : List ℕ} {s : Stack} {p : ℕ} (g : Going text a₀ s₀ p₀ a s p) where
   -- No entry is left: all matched.
   pub going_empty : s.height ≡ 0
       → (line : ℕ) (m : ParserState) → Ok (set_position p (set_stack (stack_of a s) m))
-          ≡ stack_match_pop text true line (stack_of a₀ s₀).cache p₀ (set_stack (stack_of a₀ s₀) m)
+      ≡ stack_match_pop text true line (stack_of a₀ s₀).cache p₀ (set_stack (stack_of a₀ s₀) m)
   unfolding pairs
   going_empty h line m = let z : (stack_of a s).cache ≡ [] = rw h in step_empty text (stack_of a s) line p m z ∙ g.rest line m
 
@@ -180,7 +180,7 @@ module _ {text a₀ : List ℕ} {s₀ : Stack} {p₀ : ℕ} {a : List ℕ} {s : 
     -- The pop found no room.
     pub going_full : ((y : Stack × Code.Span) → r ≡ Result.Ok y → ⊥)
         → (line : ℕ) (m : ParserState) → Stop (StackFull line) ≡ stack_match_pop text true line (stack_of a₀ s₀).cache p₀
-            (set_stack (stack_of a₀ s₀) m)
+        (set_stack (stack_of a₀ s₀) m)
     going_full n line m = step_full text (stack_of a s) line p m some_entry (go r n e.0) ∙ g.rest line m
       where
         not_empty : (c : List Span) → (c ≡ [] → ⊥) → Take.empty ≡ taken_from c (stack_of a s) → ⊥
@@ -208,8 +208,12 @@ module _ {text a₀ : List ℕ} {s₀ : Stack} {p₀ : ℕ} {a : List ℕ} {s : 
       ready_here =
           ready_after a a' u (stack_of a' u) g.ready.room e.1 refl
           (took_sound (stack_of a s) (stack_of a' u) (span x.start.0 x.end.0) took_here g.ready.sound)
-          (omega (arith, took_lengths (stack_of a s) (stack_of a' u) (span x.start.0 x.end.0) took_here,
-              pairs_length checkpoint a 2816 s.checkpoints, g.ready.few))
+          (omega (
+            arith,
+            took_lengths (stack_of a s) (stack_of a' u) (span x.start.0 x.end.0) took_here,
+            pairs_length checkpoint a 2816 s.checkpoints,
+            g.ready.few,
+          ))
 
       module _ {bytes : List ℕ} (eb : bytes ≡ bytes_of text x.start.0 x.end.0) where
         -- The entry matched.
@@ -226,7 +230,7 @@ module _ {text a₀ : List ℕ} {s₀ : Stack} {p₀ : ℕ} {a : List ℕ} {s : 
         -- It did not: popped entries are gone.
         pub going_failed : match_string text bytes p ≡ None
             → (line : ℕ) (m : ParserState) →
-                Err (set_stack (stack_of a' u) m) ≡ stack_match_pop text true line (stack_of a₀ s₀).cache p₀ (set_stack (stack_of a₀ s₀) m)
+            Err (set_stack (stack_of a' u) m) ≡ stack_match_pop text true line (stack_of a₀ s₀).cache p₀ (set_stack (stack_of a₀ s₀) m)
         going_failed h line m =
             step_none text (stack_of a s) line p m (stack_of a' u) (span x.start.0 x.end.0) took_here
             (ap (λ (b : List ℕ). Pest.match_string text b p) (sym eb) ∙ match_string_same text bytes p ∙ h)

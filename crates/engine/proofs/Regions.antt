@@ -31,8 +31,11 @@ pub same_above : {lo hi : ℕ} {a b : List ℕ} (from to : ℕ) → hi ≤ from 
 same_above from to h o = λ k l m. o.above k (omega arith)
 
 pub outside_set : (a : List ℕ) (i v : ℕ) → Outside i (i + 1) a (set a i v)
-outside_set a i v = record { size = length-set a i v; below = λ k l. sym (get_or-set_other a i k v 0 (omega arith)); above = λ k l.
-    sym (get_or-set_other a i k v 0 (omega arith)) }
+outside_set a i v = record {
+  size = length-set a i v;
+  below = λ k l. sym (get_or-set_other a i k v 0 (omega arith));
+  above = λ k l. sym (get_or-set_other a i k v 0 (omega arith));
+}
 
 pub outside_put : (a : List ℕ) (at x y : ℕ) → Outside at (at + 2) a (put a at x y)
 unfolding put

@@ -40,9 +40,11 @@ module _ (g : Setting) (due : Bool) (line r p : ℕ) (n : Noted) (m : ParserStat
       kept e false = ap (λ (x : ParserState). x.position) (track_is r p n m e)
 
       go : (d b : Bool) → is_atomic m.atomicity ≡ b
-          → At (elim (d && not b) [ false ↦ Ok m
-              | true ↦ stop_if (ltb most_attempts (length t.pos_attempts) || ltb most_attempts (length t.neg_attempts)) (AttemptsFull line)
-              (λ _. Ok t) ]) m.position
+          → At (elim (d && not b) [
+            | false ↦ Ok m
+            | true ↦ stop_if (ltb most_attempts (length t.pos_attempts) || ltb most_attempts (length t.neg_attempts)) (AttemptsFull line)
+                (λ _. Ok t)
+          ]) m.position
       go false b e = refl
       go true true e = refl
       go true false e = kept e (ltb most_attempts (length t.pos_attempts) || ltb most_attempts (length t.neg_attempts))

@@ -193,7 +193,7 @@ module _ (g : Setting) (line r : ℕ) where
   pub rule_is : (f : ParserState → Ending ParserState) (m : ParserState)
       → Pest.rule g true line r f m
       ≡ on_ok (starting g line m) (λ n. Pest.rule_end g true line r m.position (length m.queue) (noted m.position (tried_of m)).positives
-          (noted m.position (tried_of m)).negatives (noted m.position (tried_of m)).total (f n))
+      (noted m.position (tried_of m)).negatives (noted m.position (tried_of m)).total (f n))
   rule_is f m = go (produces m) (leb g.capacity (length m.queue))
     where
       k : ParserState → Ending ParserState

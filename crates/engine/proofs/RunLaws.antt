@@ -55,10 +55,18 @@ first l = record {
 
 pub first_is : (l : ℕ) (tokens scratch : List ℕ) → view tokens scratch (first l) ≡ Pest.new l
 unfolding numbers pairs queue_of
-first_is l tokens scratch = ap (λ (x : Option CallLimit).
-    record { position = 0; queue = []; lookahead = Looks.None; pos_attempts = []; neg_attempts = []; attempt_pos = 0;
-    atomicity = NonAtomic; stack = record { cache = []; popped = []; lengths = [] }; call_tracker =
-    record { current_call_limit = x; limit_reached = None } }) (limit_is l)
+first_is l tokens scratch = ap (λ (x : Option CallLimit). record {
+  position = 0;
+  queue = [];
+  lookahead = Looks.None;
+  pos_attempts = [];
+  neg_attempts = [];
+  attempt_pos = 0;
+  atomicity = NonAtomic;
+  stack = record { cache = []; popped = []; lengths = [] };
+  call_tracker =
+      record { current_call_limit = x; limit_reached = None };
+}) (limit_is l)
 
 -- ── A refused run ──
 pub refused_is : (i : Input) (scratch : List ℕ) (r : Refused) → Some (refusal_of r) ≡ refusal i → Ran i (refused i (refusal_of r)) scratch scratch

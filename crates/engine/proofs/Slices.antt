@@ -60,7 +60,7 @@ module _ (a : List ℕ) where
         ap (λ (n : ℕ). take n q) j
         ∙ take-suc q (high - 1 - low) d (omega (arith, up_length h, length-drop low (up h)))
         ∙ ap (λ (x : Span). take (high - 1 - low) q ++ (x ∷ [])) (get_or-drop low (up h) (high - 1 - low) d
-            ∙ ap (λ (n : ℕ). get_or (up h) n d) k ∙ up_at h (high - 1) d (omega arith)) in
+        ∙ ap (λ (n : ℕ). get_or (up h) n d) k ∙ up_at h (high - 1) d (omega arith)) in
         ap (λ (x : List Span). reverse x) more ∙ reverse-append (take (high - 1 - low) q) (entry_at a (high - 1) ∷ [])
 
   -- What is left of a slice at turn k.

@@ -60,7 +60,7 @@ module _ (x : Span) (rest c p : List Span) (k : Checkpoint) (ks : List Checkpoin
 -- What `restore` picks is the same list where nothing was popped.
 restored_pick : (tall low : ℕ) (q z : List Span) (ks : List Checkpoint) → Dec (low < tall)
     → (if ltb low tall then pest (reverse (take (tall - low) q) ++ z) (drop (tall - low) q) ks else pest z q ks)
-        ≡ pest (reverse (take (tall - low) q) ++ z) (drop (tall - low) q) ks
+    ≡ pest (reverse (take (tall - low) q) ++ z) (drop (tall - low) q) ks
 restored_pick tall low q z ks (yes l) = rw (lt-ltb low tall l)
 restored_pick tall low q z ks (no n) =
     let e : tall - low ≡ 0 = omega arith in
@@ -98,7 +98,7 @@ module _ (a : List ℕ) (s : Stack) (r : StackReady a s) where
       let o : Outside (0 + h * 2) (0 + h * 2 + 2) a a' = rw e (outside_put a (0 + h * 2) x y) in
       let j : h + 1 ≡ suc h = omega arith in
       let q : pairs span a' 0 (h + 1) ≡ span x y ∷ entries h = ap₂ (λ (b : List ℕ) (m : ℕ). pairs span b 0 m) e j
-              ∙ pairs_put span a 0 h x y (omega arith) in (
+      ∙ pairs_put span a 0 h x y (omega arith) in (
         rw (pairs_length span a 0 h, lt-leb 128 h l) (ap (λ (v : Pest.Stack). Some v) (pest_ext q
             (sym (pairs_same span a a' 256 p (same_above 256 (256 + p * 2) (omega arith) o)))
             (sym (pairs_same checkpoint a a' 2816 c (same_above 2816 (2816 + c * 2) (omega arith) o))))),
@@ -160,9 +160,11 @@ module _ (a : List ℕ) (s : Stack) (r : StackReady a s) where
     module _ (cz : c ≡ 0 → ⊥) (top : ℕ × ℕ) (et : top ≡ pair a (2816 + (c - 1) * 2)) where
       pub pop_above : (top.1 ≡ h → ⊥) → (got (stack_of a (counts (h - 1) p c)) gone ≡ taken (stack_of a s)) × OutsideStack a a
       pop_above n =
-          let t : Top h p top.0 top.1 (debt (marks (c - 1))) = top_is cz top et in
-          (rw (cache_is, lengths_is cz top et) (taken_above gone (entries (h - 1)) [] (owed p) _ _ (λ e. n (sym e ∙ low_len))
-              (omega (arith, t.owing))), stack_refl a)
+          let t : Top h p top.0 top.1 (debt (marks (c - 1))) = top_is cz top et in (
+            rw (cache_is, lengths_is cz top et) (taken_above gone (entries (h - 1)) [] (owed p) _ _ (λ e. n (sym e ∙ low_len))
+                (omega (arith, t.owing))),
+            stack_refl a,
+          )
 
       pub pop_at : (a₁ a₂ : List ℕ) → top.1 ≡ h → p < 1024
           → a₁ ≡ put a (2816 + (c - 1) * 2) top.0 (top.1 - 1) → a₂ ≡ put a₁ (256 + p * 2) x.0 x.1
@@ -175,27 +177,29 @@ module _ (a : List ℕ) (s : Stack) (r : StackReady a s) where
           let j : p + 1 ≡ suc p = omega arith in
           let cache₂ : pairs span a₂ 0 (h - 1) ≡ entries (h - 1) =
           sym (pairs_same span a a₁ 0 (h - 1) (same_below 0 (0 + (h - 1) * 2) (omega arith) o₁)
-              ∙ pairs_same span a₁ a₂ 0 (h - 1) (same_below 0 (0 + (h - 1) * 2) (omega arith) o₂)) in
+          ∙ pairs_same span a₁ a₂ 0 (h - 1) (same_below 0 (0 + (h - 1) * 2) (omega arith) o₂)) in
           let popped₂ : pairs span a₂ 256 (p + 1) ≡ gone ∷ owed p =
           ap₂ (λ (b : List ℕ) (m : ℕ). pairs span b 256 m) e₂ j
           ∙ pairs_put span a₁ 256 p x.0 x.1 (omega (arith, o₁.size))
           ∙ ap₂ (λ (u : Span) (q : List Span). u ∷ q) (sym gone_is)
-              (sym (pairs_same span a a₁ 256 p (same_below 256 (256 + p * 2) (omega arith) o₁))) in
+          (sym (pairs_same span a a₁ 256 p (same_below 256 (256 + p * 2) (omega arith) o₁))) in
           let lengths₂ : pairs checkpoint a₂ 2816 c ≡ checkpoint top.0 (top.1 - 1) ∷ marks (c - 1) =
           sym (pairs_same checkpoint a₁ a₂ 2816 c (same_above 2816 (2816 + c * 2) (omega arith) o₂))
           ∙ ap₂ (λ (b : List ℕ) (m : ℕ). pairs checkpoint b 2816 m) e₁ k
           ∙ pairs_put checkpoint a 2816 (c - 1) top.0 (top.1 - 1) (omega arith) in (
             ap (λ (v : Pest.Stack). got v gone) (pest_ext cache₂ popped₂ lengths₂)
                 ∙ rw (cache_is, lengths_is cz top et) (taken_at gone (entries (h - 1)) [] (owed p) (checkpoint top.0 top.1) (marks (c - 1))
-                    (low_len ∙ sym e) t.own (omega (arith, t.owing))),
+                (low_len ∙ sym e) t.own (omega (arith, t.owing))),
             stack_trans (stack_above (omega arith) (omega arith) o₁) (stack_below (omega arith) o₂),
           )
 
       full_at : top.1 ≡ h → 1024 ≤ p → (Take.full ≡ taken (stack_of a s)) × OutsideStack a a
       full_at e l =
-          let t : Top h p top.0 top.1 (debt (marks (c - 1))) = top_is cz top et in
-          (rw (cache_is, lengths_is cz top et) (taken_full gone (entries (h - 1)) [] (owed p) _ _ (low_len
-              ∙ sym e) t.own (omega (arith, t.owing))), stack_refl a)
+          let t : Top h p top.0 top.1 (debt (marks (c - 1))) = top_is cz top et in (
+            rw (cache_is, lengths_is cz top et) (taken_full gone (entries (h - 1)) [] (owed p) _ _ (low_len
+                ∙ sym e) t.own (omega (arith, t.owing))),
+            stack_refl a,
+          )
 
   pub pop_full : (h ≡ 0 → ⊥) → (x : ℕ × ℕ) → x ≡ pair a (0 + (h - 1) * 2) → (c ≡ 0 → ⊥) → (top : ℕ × ℕ) → top ≡ pair a (2816 + (c - 1) * 2)
       → top.1 ≡ h → 1024 ≤ p
@@ -231,7 +235,7 @@ module _ (a : List ℕ) (s : Stack) (r : StackReady a s) where
 
       cleared_is : clear_snapshot (stack_of a s)
           ≡ pest (entries h) (take (outer.1 - min outer.1 top.1) (owed p) ++ drop (top.0 - top.1) (owed p))
-              (checkpoint outer.0 (min outer.1 top.1) ∷ marks (c - 2))
+          (checkpoint outer.0 (min outer.1 top.1) ∷ marks (c - 2))
       cleared_is = rw (lengths_is cz top et, outer_is)
 
       pub clear_more : (a₁ a₂ : List ℕ) (low n : ℕ) → low ≡ min outer.1 top.1 → n ≡ outer.1 - top.1 → a₁ ≡ put a (2816 + (c - 2) * 2) outer.0 low
@@ -250,14 +254,14 @@ module _ (a : List ℕ) (s : Stack) (r : StackReady a s) where
           let o₂ : Outside (256 + to * 2) (256 + (to + n) * 2) a₁ a₂ = drained_outside a₁ a₂ to from n d in
           let k : c - 1 ≡ suc (c - 2) = omega arith in
           let same₁ : (j : ℕ) → j ≤ p → pairs span a₁ 256 j ≡ owed j =
-                  λ j hj. sym (pairs_same span a a₁ 256 j (same_below 256 (256 + j * 2) (omega arith) o₁)) in
+          λ j hj. sym (pairs_same span a a₁ 256 j (same_below 256 (256 + j * 2) (omega arith) o₁)) in
           let cache₂ : pairs span a₂ 0 h ≡ entries h =
           sym (pairs_same span a a₁ 0 h (same_below 0 (0 + h * 2) (omega arith) o₁)
-              ∙ pairs_same span a₁ a₂ 0 h (same_below 0 (0 + h * 2) (omega arith) o₂)) in
+          ∙ pairs_same span a₁ a₂ 0 h (same_below 0 (0 + h * 2) (omega arith) o₂)) in
           let popped₂ : pairs span a₂ 256 (to + n) ≡ take n (owed p) ++ drop (top.0 - top.1) (owed p) =
           drained_pairs a₁ a₂ to from n n d (omega arith)
           ∙ ap₂ (λ (q q' : List Span). take n q ++ q') (ap (λ (j : ℕ). pairs span a₁ 256 j) hn
-              ∙ same₁ p (omega arith)) (same₁ to (omega arith) ∙ left_is) in
+          ∙ same₁ p (omega arith)) (same₁ to (omega arith) ∙ left_is) in
           let lengths₂ : pairs checkpoint a₂ 2816 (c - 1) ≡ checkpoint outer.0 low ∷ marks (c - 2) =
           sym (pairs_same checkpoint a₁ a₂ 2816 (c - 1) (same_above 2816 (2816 + (c - 1) * 2) (omega arith) o₂))
           ∙ ap₂ (λ (b : List ℕ) (j : ℕ). pairs checkpoint b 2816 j) e₁ k
@@ -293,7 +297,7 @@ module _ (a : List ℕ) (s : Stack) (r : StackReady a s) where
         let j : top.0 ≡ top.1 + n = omega (arith, t.own) in (
           pest_ext
               (ap₂ (λ (b : List ℕ) (m : ℕ). pairs span b 0 m) e j
-                  ∙ refilled_pairs a top.1 p n (omega (arith, t.owing)) (omega (arith, t.high)) r.room)
+              ∙ refilled_pairs a top.1 p n (omega (arith, t.owing)) (omega (arith, t.high)) r.room)
               (sym (pairs_same span a a' 256 (p - n) (same_above 256 (256 + (p - n) * 2) (omega (arith, t.high)) o)) ∙ left_is)
               (sym (pairs_same checkpoint a a' 2816 (c - 1) (same_above 2816 (2816 + (c - 1) * 2) (omega (arith, t.high)) o)))
               ∙ sym restored_is,

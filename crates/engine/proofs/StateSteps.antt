@@ -59,7 +59,7 @@ module _ {a b : List ℕ} {s t : ParserState} (r : StateReady a s) (o : OutsideS
   view_stack w v e et tokens =
       ap (view tokens b) et
       ∙ (λ i. with_parts (view tokens a s) (positives_kept a b o s.attempts.positives r.positives i)
-          (negatives_kept a b o s.attempts.negatives r.negatives i) (e i))
+      (negatives_kept a b o s.attempts.negatives r.negatives i) (e i))
 
 -- checkpoint, checkpoint_ok, restored
 pub stack_changed : (f : Pest.Stack → Pest.Stack) {a b : List ℕ} {s t : ParserState} {v : Stack} (w : Stack) → StateReady a s → v ≡ s.stack
@@ -83,7 +83,7 @@ module _ {a b : List ℕ} {s : ParserState} (r : StateReady a s) {v : Stack} (ev
 
   pub push_kept : (w : Stack) → p ≡ Some w → {t : ParserState} → t ≡ Fields.set_stack w s
       → ((tokens : List ℕ) → Ok (view tokens b t) ≡ stop_if (leb 128 (length (stack_of a s.stack).cache)) (StackFull line) (λ _.
-          Ok (set_stack after (view tokens a s)))) × OutsideStack a b
+      Ok (set_stack after (view tokens a s)))) × OutsideStack a b
   push_kept w f {t} et = (λ tokens. go tokens (leb 128 (length (stack_of a s.stack).cache)) (rw f at said), e.1)
     where
       go : (tokens : List ℕ) (b₀ : Bool) → Some (stack_of b w) ≡ (if b₀ then None else Some after)
@@ -98,7 +98,7 @@ module _ (text : List ℕ) (line : ℕ) (m : Pest.ParserState) where
   step_got w x t =
       sym (ap (λ (c : List Span). stack_pop text true line c m) t.cache
       ∙ pick (ltb 1024 (debt (pop x w.cache m.stack).lengths)) (sym (ap (λ (u : Pest.Stack). ltb 1024 (debt u.lengths)) t.is)
-          ∙ le-ltb 1024 (debt w.lengths) t.owing)
+      ∙ le-ltb 1024 (debt w.lengths) t.owing)
       ∙ ap (λ (u : Pest.Stack). moved (Pest.match_string text (as_str text x) m.position) (set_stack u m)) (sym t.is))
     where
       pick : (b : Bool) → b ≡ false
@@ -140,17 +140,17 @@ module _ (text : List ℕ) (line : ℕ) {a b : List ℕ} {s : ParserState} (r : 
       → bytes ≡ bytes_of text x.start.0 x.end.0
       → {y : BytePosition} → y ≡ s.position → (q : Option BytePosition) → q ≡ matched (match_string text bytes y.0)
       → (end : ParserState) (z : Code·ending.Ending)
-          → ((tokens scratch : List ℕ) → view_end tokens scratch end z ≡ moved (match_of q) (view tokens scratch t))
+      → ((tokens scratch : List ℕ) → view_end tokens scratch end z ≡ moved (match_of q) (view tokens scratch t))
       → ((tokens : List ℕ) → view_end tokens b end z ≡ stack_pop text true line (stack_of a s.stack).cache (view tokens a s)) × OutsideStack a b
   pop_moved w x f et bytes eb {y} ey q eq end z ez = (
     λ tokens.
         ez tokens b
         ∙ ap₂ moved
         (ap match_of eq ∙ matched_back (match_string text bytes y.0) ∙ sym (match_string_same text bytes y.0)
-            ∙ ap₂ (λ (l : List ℕ) (n : BytePosition). Pest.match_string text l n.0) eb ey)
+        ∙ ap₂ (λ (l : List ℕ) (n : BytePosition). Pest.match_string text l n.0) eb ey)
         (view_stack r e.1 w (stack_of b w) refl et tokens)
         ∙ step_got text line (view tokens a s) (stack_of b w) (span x.start.0 x.end.0)
-            (took (stack_of a s.stack) (stack_of b w) (span x.start.0 x.end.0) (sym (rw f at took_of))),
+        (took (stack_of a s.stack) (stack_of b w) (span x.start.0 x.end.0) (sym (rw f at took_of))),
     e.1,
   )
 
@@ -158,19 +158,19 @@ module _ (text : List ℕ) (line : ℕ) {a b : List ℕ} {s : ParserState} (r : 
 module _ (text : List ℕ) (line : ℕ) {a b : List ℕ} {s : ParserState} (r : StateReady a s) {v : Stack} (ev : v ≡ s.stack) {y : BytePosition}
     (ey : y ≡ s.position) (p : Option (Stack × Option BytePosition))
     (e : ((l : ℕ) → (m : Pest.ParserState) →
-        match_end b l m p ≡ stack_match_pop text true l (stack_of a v).cache y.0 (set_stack (stack_of a v) m)) × OutsideStack a b) where
+    match_end b l m p ≡ stack_match_pop text true l (stack_of a v).cache y.0 (set_stack (stack_of a v) m)) × OutsideStack a b) where
   ends : (tokens : List ℕ) → match_end b line (view tokens a s) p ≡ stack_match_pop text true line (stack_of a s.stack).cache s.position.0
       (view tokens a s)
   ends tokens =
       e.0 line (view tokens a s)
       ∙ ap₂ (λ (u : Stack) (n : BytePosition).
-          stack_match_pop text true line (stack_of a u).cache n.0 (set_stack (stack_of a u) (view tokens a s))) ev ey
+      stack_match_pop text true line (stack_of a u).cache n.0 (set_stack (stack_of a u) (view tokens a s))) ev ey
 
   pub popped_some : (w : Stack) (q : Option BytePosition) → p ≡ Some (w, q) → {t : ParserState} → t ≡ Fields.set_stack w s
       → (end : ParserState) (z : Code·ending.Ending)
-          → ((tokens scratch : List ℕ) → view_end tokens scratch end z ≡ moved (match_of q) (view tokens scratch t))
+      → ((tokens scratch : List ℕ) → view_end tokens scratch end z ≡ moved (match_of q) (view tokens scratch t))
       → ((tokens : List ℕ) → view_end tokens b end z ≡ stack_match_pop text true line (stack_of a s.stack).cache s.position.0
-          (view tokens a s)) × OutsideStack a b
+      (view tokens a s)) × OutsideStack a b
   popped_some w q f et end z ez = (
     λ tokens.
         ez tokens b
@@ -182,7 +182,7 @@ module _ (text : List ℕ) (line : ℕ) {a b : List ℕ} {s : ParserState} (r : 
 
   pub popped_indebted : p ≡ None
       → ((tokens : List ℕ) → Stop (StackFull line) ≡ stack_match_pop text true line (stack_of a s.stack).cache s.position.0
-          (view tokens a s)) × OutsideStack a b
+      (view tokens a s)) × OutsideStack a b
   popped_indebted f = (λ tokens. sym (ap (match_end b line (view tokens a s)) f) ∙ ends tokens, e.1)
 
 -- ── stack_match_peek_slice ──
@@ -230,8 +230,8 @@ module _ (text : List ℕ) (i : ℤ) (j : Option ℤ) (d : Bool) (m : Pest.Parse
         where
           go : (b : Bool) → b ≡ false
               → ◌≡◌ {A = Ending Pest.ParserState} (elim b
-                  [ true ↦ Ok m | false ↦ moved (all_match text (slice start end d m.stack.cache) m.position) m ])
-                  (moved (all_match text (slice start end d m.stack.cache) m.position) m)
+              [ true ↦ Ok m | false ↦ moved (all_match text (slice start end d m.stack.cache) m.position) m ])
+              (moved (all_match text (slice start end d m.stack.cache) m.position) m)
           go b t = rw t
 
 -- Fields b and c of kind 16.
@@ -256,7 +256,7 @@ module _ (text a : List ℕ) (i b : ℤ) (c : ℕ) (s : ParserState) (v : Stack)
     pub end_out : r₂ ≡ None → (tokens : List ℕ) → Err (view tokens a s) ≡ stack_match_peek_slice text i (end_of c b) down (view tokens a s)
     end_out g tokens =
         peek_end_out text i (end_of c b) down (view tokens a s) v.height (tall tokens) start start_is
-            (index_out (normalize_end (end_of c b) v.height) r₂ (pest_end (end_of c b) v.height er₂) g)
+        (index_out (normalize_end (end_of c b) v.height) r₂ (pest_end (end_of c b) v.height er₂) g)
 
     module _ {end : ℕ} (g : r₂ ≡ Some end) where
       end_is : normalize_end (end_of c b) v.height ≡ Some end
@@ -268,7 +268,7 @@ module _ (text a : List ℕ) (i b : ℤ) (c : ℕ) (s : ParserState) (v : Stack)
       pub slice_moved : start < end → (d : Bool) → d ≡ down → {y : BytePosition} → y ≡ s.position
           → (q : Option BytePosition) → q ≡ matched (all_match text (slice start end d (stack_of a v).cache) y.0)
           → (t : ParserState) (z : Code·ending.Ending)
-              → ((tokens scratch : List ℕ) → view_end tokens scratch t z ≡ moved (match_of q) (view tokens scratch s))
+          → ((tokens scratch : List ℕ) → view_end tokens scratch t z ≡ moved (match_of q) (view tokens scratch s))
           → (tokens : List ℕ) → view_end tokens a t z ≡ stack_match_peek_slice text i (end_of c b) down (view tokens a s)
       slice_moved l d ed {y} ey q eq t z ez tokens =
           ez tokens a

@@ -192,7 +192,7 @@ module _ (ns : List ℤ) (literals text : List ℕ) (capacity : ℕ) where
   -- ── A tree that enters: k is what it does one call deeper ──
   module _ (T : Exp) (c : Bool) (k : (Exp → ParserState → Ending ParserState) → ParserState → Ending ParserState)
       (enters : (room : Bool) (f : Exp → ParserState → Ending ParserState) (m : ParserState)
-          → Pest.level g true room f T m ≡ Pest.check_limit room c m (k f)) where
+      → Pest.level g true room f T m ≡ Pest.check_limit room c m (k f)) where
     pub entry_refused : (d : ℕ) (m n : ParserState) → Refused c d m n → Err n ≡ E d T m
     unfolding evaluated
     entry_refused zero m n o = ap (λ (x : Entry). go_on x (k (Pest.no_deeper g true))) o.refuses
@@ -241,8 +241,8 @@ module _ (ns : List ℤ) (literals text : List ℕ) (capacity : ℕ) where
   unfolding evaluated
   kept_by w d l m x f e =
       left_of x (subst (KeepsFrom g (still (rule_still ns) (tree_at ns literals l)) m) (sym e)
-          (eval_keeps g (rule_still ns) (tested_of ns literals text capacity w) d (tree_at ns literals l) (tree_literals ns literals w l)
-          (tree_steady ns literals w (rule_still ns) (rule_still_is ns) l) m f))
+      (eval_keeps g (rule_still ns) (tested_of ns literals text capacity w) d (tree_at ns literals l) (tree_literals ns literals w l)
+      (tree_steady ns literals w (rule_still ns) (rule_still_is ns) l) m f))
 
   pub kept : (tokens scratch : List ℕ) (d l : ℕ) (m : ParserState) (x : Ending ParserState) → R tokens scratch d m → x ≡ E d (tree_at ns literals l) m
       → LeftFrom g m x
@@ -255,8 +255,8 @@ module _ (ns : List ℤ) (literals text : List ℕ) (capacity : ℕ) where
   moves_on tokens scratch d l m v r i s e =
       ahead_of {g = g} {b = still (rule_still ns) (tree_at ns literals l)} (Ok v)
       (subst (KeepsFrom g (still (rule_still ns) (tree_at ns literals l)) m) (sym e)
-          (eval_keeps g (rule_still ns) (tested_of ns literals text capacity (tests r)) d (tree_at ns literals l)
-          (tree_literals ns literals (tests r) l) (tree_steady ns literals (tests r) (rule_still ns) (rule_still_is ns) l) m r.fit))
+      (eval_keeps g (rule_still ns) (tested_of ns literals text capacity (tests r)) d (tree_at ns literals l)
+      (tree_literals ns literals (tests r) l) (tree_steady ns literals (tests r) (rule_still ns) (rule_still_is ns) l) m r.fit))
       (tree_still ns literals (tests r) (rule_still ns) (rule_still_is ns) l (i.low, i.high) ∙ s)
 
   -- From the state m, at which the body began.
@@ -282,8 +282,11 @@ module _ (ns : List ℤ) (literals text : List ℕ) (capacity : ℕ) where
     tracking_after : (s : Code.ParserState) → LeftFrom g m (Ok (view tokens scratch s)) → Tracking scratch s
     tracking_after s w =
         let r : StateReady scratch s = ready_after s w in
-        record { lent = record { room = room; few = record { few_positives = r.positives; few_negatives = r.negatives } };
-            tall = r.stack.tall; owing = r.stack.owing }
+        record {
+          lent = record { room = room; few = record { few_positives = r.positives; few_negatives = r.negatives } };
+          tall = r.stack.tall;
+          owing = r.stack.owing;
+        }
 
     pub rule_ready : (i : ℕ) (s : Code.ParserState) (r : Coded.Ending) → LeftFrom g m (view_end tokens scratch s r)
         → capacity * 5 ≤ length tokens → capacity ≤ 65535 → length text ≤ 65535 → i ≤ capacity
@@ -343,7 +346,7 @@ module _ (ns : List ℤ) (literals text : List ℕ) (capacity : ℕ) where
     module _ {d j : ℕ} {m n : ParserState} where
       pub sequence_step : Opened true d j m n → {u : ParserState} → u ≡ Pest.checkpoint n → {x : Ending ParserState} → x ≡ E j C u
           → {i : ℕ} → length n.queue ≡ i → {p : ℕ} → n.position ≡ p → {y : Ending ParserState} → y ≡ Pest.sequence_end i p x
-              → y ≡ E d (Grammar.sequence C) m
+          → y ≡ E d (Grammar.sequence C) m
       sequence_step o v {x} w q h z =
           z ∙ ap₂ (λ (j k : ℕ). Pest.sequence_end j k x) (sym q) (sym h) ∙ ap (Pest.sequence_end (length n.queue) n.position) (w ∙ ap (E j C) v)
           ∙ entry_open (Grammar.sequence C) true (λ f k. Pest.sequence (f C) k) (λ room f k. refl) d j m n o
@@ -375,11 +378,11 @@ module _ (ns : List ℤ) (literals text : List ℕ) (capacity : ℕ) where
 
       pub atomic_step : (a : Atomicity) → Opened true d j m n → {tokens scratch : List ℕ} → R tokens scratch j (Pest.set_atomicity a n)
           → {x : Ending ParserState} → x ≡ E j C (Pest.set_atomicity a n) → {b : Atomicity} → n.atomicity ≡ b → {y : Ending ParserState}
-              → y ≡ atomic_back b x → y ≡ E d (Grammar.atomic a C) m
+          → y ≡ atomic_back b x → y ≡ E d (Grammar.atomic a C) m
       atomic_step a o {tokens} {scratch} r {x} w h z =
           let t : Bool = not (Pest.same_atomicity n.atomicity a) in
           z ∙ ap (λ (j : Atomicity). atomic_back j x) (sym h)
-              ∙ atomic_same a n.atomicity n x (kept tokens scratch j body (Pest.set_atomicity a n) x r w)
+          ∙ atomic_same a n.atomicity n x (kept tokens scratch j body (Pest.set_atomicity a n) x r w)
           ∙ ap (Pest.atomic_end t n.atomicity) (w ∙ ap (E j C) (sym (toggled g n.atomicity a n refl)))
           ∙ entry_open (Grammar.atomic a C) true (λ f k. Pest.atomic a (f C) k) (λ room f k. refl) d j m n o
 
@@ -419,8 +422,11 @@ module _ (ns : List ℤ) (literals text : List ℕ) (capacity : ℕ) where
 
       room : (c : Bool) → leb capacity (length n.queue) ≡ c → Begins n (stop_if c (Cause-of.TokensFull line) (λ _. Ok s))
       room true e = tt
-      room false e = (pushed_fit g n n.queue (Pest.Start 0 n.position) f refl e, refl,
-          omega (arith, length-append n.queue (Pest.Start 0 n.position ∷ [])))
+      room false e = (
+        pushed_fit g n n.queue (Pest.Start 0 n.position) f refl e,
+        refl,
+        omega (arith, length-append n.queue (Pest.Start 0 n.position ∷ [])),
+      )
 
       go : (c : Bool) → Begins n (elim c [ false ↦ Ok n | true ↦ stop_if (leb capacity (length n.queue)) (Cause-of.TokensFull line) (λ _. Ok s) ])
       go false = (f, refl, omega arith)

@@ -84,7 +84,7 @@ module _ (ns : List ℤ) (literals : List ℕ) (w : Accepted ns literals) (l : �
       let p : n.kind ≡ kind_at ns l = ap (λ (x : Read.Line). x.kind) e in
       subst (λ (k : ℕ). k ≤ 5) p
       (leaf_kind n.kind (subst (λ (k : ℕ). k ≤ 20) (sym p) fits.known_high) (subst (λ (k : ℕ). Fork k → ⊥) (sym p) f) (ap opens_call p
-          ∙ o) r.0.0.0.1 r.0.0.1 r.0.1 r.1)
+      ∙ o) r.0.0.0.1 r.0.0.1 r.0.1 r.1)
 
 module _ (ns : List ℤ) (literals text : List ℕ) (capacity d : ℕ) (w : Accepted ns literals) (l : ℕ) (i : Line ns l) (n : Read.Line)
     (e : n ≡ line_of (node_at ns l)) where
@@ -119,7 +119,7 @@ module _ (ns : List ℤ) (literals text : List ℕ) (capacity d : ℕ) (w : Acce
       let L : List ℕ = take n.b (drop n.a literals) in
       by_kind 1 (Grammar.match_string L) (λ k. Pest.moved (Pest.match_string text L k.position) k)
       (tree 1 q (λ x. Grammar.match_string (take x.b (drop x.a literals)))
-          (tree_kind ns literals w l i.low i.high 1 (kind_of ns literals w l i n e 1 q))) (λ room f k. refl) m y
+      (tree_kind ns literals w l i.low i.high 1 (kind_of ns literals w l i n e 1 q))) (λ room f k. refl) m y
       (z ∙ ap (λ (o : Option ℕ). Pest.moved o m) (string_same text L m.position))
 
   pub end_2 : n.kind ≡ 2 → (m : ParserState) → Fit g m → (y : Ending ParserState)
@@ -127,17 +127,17 @@ module _ (ns : List ℤ) (literals text : List ℕ) (capacity d : ℕ) (w : Acce
   end_2 q m f y z =
       let L : List ℕ = take n.b (drop n.a literals) in
       let u : Part literals n.a n.b = subst (λ (x : Read.Line). Part literals x.a x.b) (sym e)
-              ((fits ns literals w l i n e).part₂ (kind_of ns literals w l i n e 2 q)) in
+      ((fits ns literals w l i n e).part₂ (kind_of ns literals w l i n e 2 q)) in
       by_kind 2 (Grammar.match_insensitive L) (λ k. Pest.moved (Pest.match_insensitive text L k.position) k)
       (tree 2 q (λ x. Grammar.match_insensitive (take x.b (drop x.a literals)))
-          (tree_kind ns literals w l i.low i.high 2 (kind_of ns literals w l i n e 2 q))) (λ room h k. refl) m y
+      (tree_kind ns literals w l i.low i.high 2 (kind_of ns literals w l i n e 2 q))) (λ room h k. refl) m y
       (z ∙ ap (λ (o : Option ℕ). Pest.moved o m) (folded_same text L u.text m.position f.edge.inside f.edge.whole))
 
   pub end_3 : n.kind ≡ 3 → (m : ParserState) (y : Ending ParserState) → y ≡ Pest.moved (Position.match_range text n.a n.b m.position) m → y ≡ At m
   end_3 q m y z =
       by_kind 3 (Grammar.match_range n.a n.b) (λ k. Pest.moved (Pest.match_range text n.a n.b k.position) k)
       (tree 3 q (λ x. Grammar.match_range x.a x.b) (tree_kind ns literals w l i.low i.high 3 (kind_of ns literals w l i n e 3 q)))
-          (λ room f k. refl) m y
+      (λ room f k. refl) m y
       (z ∙ ap (λ (o : Option ℕ). Pest.moved o m) (range_same text n.a n.b m.position))
 
   pub end_4 : n.kind ≡ 4 → (m : ParserState) → Fit g m → (y : Ending ParserState) → y ≡ Pest.moved (Position.skip text n.a m.position) m → y ≡ At m
@@ -154,7 +154,7 @@ module _ (ns : List ℤ) (literals text : List ℕ) (capacity d : ℕ) (w : Acce
   pub end_15 : n.kind ≡ 15 → (m : ParserState) (y : Ending ParserState) → y ≡ Pest.stack_pop text true l m.stack.cache m → y ≡ At m
   end_15 q m y z =
       by_kind 15 (Grammar.stack_pop l) (λ k. Pest.stack_pop text true l k.stack.cache k)
-          (tree_kind ns literals w l i.low i.high 15 (kind_of ns literals w l i n e 15 q)) (λ room f k. refl) m y z
+      (tree_kind ns literals w l i.low i.high 15 (kind_of ns literals w l i n e 15 q)) (λ room f k. refl) m y z
 
   -- x and y: the two ends as the code passes them on.
   pub end_16 : n.kind ≡ 16 → (v : Ends) → v ≡ ends_of (node_at ns l) → (x y : ℤ) → x ≡ v.start → y ≡ v.end
@@ -165,17 +165,17 @@ module _ (ns : List ℤ) (literals text : List ℕ) (capacity d : ℕ) (w : Acce
       (λ k. Pest.stack_match_peek_slice text x (if ltb n.c 2 then Some y else None) (eqb n.c 1 || eqb n.c 3) k)
       (tree_kind ns literals w l i.low i.high 16 (kind_of ns literals w l i n e 16 q)
       ∙ ap₂ (λ (j : Ends) (c : ℕ). Grammar.stack_match_peek_slice j.start (if ltb c 2 then Some j.end else None) (eqb c 1 || eqb c 3))
-          (sym u) (ap (λ (j : Read.Line). j.c) (sym e))
+      (sym u) (ap (λ (j : Read.Line). j.c) (sym e))
       ∙ ap₂ (λ (j k : ℤ). Grammar.stack_match_peek_slice j (if ltb n.c 2 then Some k else None) (eqb n.c 1 || eqb n.c 3)) (sym p) (sym o))
       (λ room f k. refl) m r z
 
   pub end_17 : n.kind ≡ 17 → (m : ParserState) (y : Ending ParserState) → y ≡ Pest.stack_match_pop text true l m.stack.cache m.position m → y ≡ At m
   end_17 q m y z =
       by_kind 17 (Grammar.stack_match_pop l) (λ k. Pest.stack_match_pop text true l k.stack.cache k.position k)
-          (tree_kind ns literals w l i.low i.high 17 (kind_of ns literals w l i n e 17 q)) (λ room f k. refl) m y z
+      (tree_kind ns literals w l i.low i.high 17 (kind_of ns literals w l i n e 17 q)) (λ room f k. refl) m y z
 
   pub end_19 : n.kind ≡ 19 → (m : ParserState) (y : Ending ParserState) → y ≡ Pest.tag_node n.a m → y ≡ At m
   end_19 q m y z =
       by_kind 19 (Grammar.tag_node n.a) (λ k. Pest.tag_node n.a k)
-          (tree 19 q (λ x. Grammar.tag_node x.a) (tree_kind ns literals w l i.low i.high 19 (kind_of ns literals w l i n e 19 q)))
-          (λ room f k. refl) m y z
+      (tree 19 q (λ x. Grammar.tag_node x.a) (tree_kind ns literals w l i.low i.high 19 (kind_of ns literals w l i n e 19 q)))
+      (λ room f k. refl) m y z

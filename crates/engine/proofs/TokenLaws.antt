@@ -29,7 +29,7 @@ token_by t = if eqb t.kind 1 then Start t.partner t.position else End t.partner 
 
 pub five_ext : {k k' i i' p p' r r' t t' : ℕ} → k ≡ k' → i ≡ i' → p ≡ p' → r ≡ r' → t ≡ t'
     → ◌≡◌ {A = Token} (record { kind = k; partner = i; position = p; rule = r; tag = t })
-        (record { kind = k'; partner = i'; position = p'; rule = r'; tag = t' })
+    (record { kind = k'; partner = i'; position = p'; rule = r'; tag = t' })
 five_ext a b c d e = λ x. record { kind = a x; partner = b x; position = c x; rule = d x; tag = e x }
 
 -- What a token stands for gives its numbers back.
@@ -53,7 +53,7 @@ unfolding queue_of
 queue_same zero a b h = refl
 queue_same (suc n) a b h =
     ap₂ (λ (q : List QueueableToken) (t : Token). q ++ (token_by t ∷ [])) (queue_same n a b (λ k l. h k (omega arith)))
-        (five_same a b n (λ k l m. h k (omega arith)))
+    (five_same a b n (λ k l m. h k (omega arith)))
 
 -- `truncate`
 pub queue_take : (a : List ℕ) (n k : ℕ) → k ≤ n → take k (queue_of a n) ≡ queue_of a k
@@ -201,7 +201,7 @@ module _ (a : List ℕ) (i v : ℕ) (h : i * 5 + 5 ≤ length a) where
       same : (n : ℕ) → Dec (i < n) → queue_of a n ≡ set (queue_of a n) i (with_end v (get_or (queue_of a n) i (Start 0 0)))
       same n (yes l) =
           let g : get_or (queue_of a n) i (Start 0 0) ≡ End (get_or a (i * 5 + 1) 0) (get_or a (i * 5 + 3) 0) (get_or a (i * 5 + 4) 0)
-                  (get_or a (i * 5 + 2) 0) = queue_getD a n i (Start 0 0) l ∙ end_by (five_at a i) f in
+          (get_or a (i * 5 + 2) 0) = queue_getD a n i (Start 0 0) l ∙ end_by (five_at a i) f in
           sym (set-get_or (queue_of a n) i (Start 0 0)) ∙ ap (set (queue_of a n) i) (g ∙ sym (ap (with_end v) g))
       same n (no g) = sym (set_out (queue_of a n) i _ (omega (arith, queue_length a n)))
 
@@ -225,7 +225,7 @@ module _ (a : List ℕ) (m u : ℕ) (h : m * 5 + 5 ≤ length a) where
   tag_start e =
       let s : token_at a m ≡ Start (get_or a (m * 5 + 1) 0) (get_or a (m * 5 + 2) 0) = start_by (five_at a m) e in
       let q : queue_of a m ++ (token_at a m ∷ []) ≡ queue_of a m ++ (Start (get_or a (m * 5 + 1) 0) (get_or a (m * 5 + 2) 0) ∷ []) =
-              ap (λ (t : QueueableToken). queue_of a m ++ (t ∷ [])) s in
+      ap (λ (t : QueueableToken). queue_of a m ++ (t ∷ [])) s in
       q ∙ sym (tag_at_start u (queue_of a m) _ _) ∙ sym (ap (tag_last u) q)
 
   tag_outside : Outside (m * 5) (m * 5 + 5) a (set a (m * 5 + 4) u)
@@ -243,8 +243,10 @@ module _ (a : List ℕ) (n u : ℕ) (f : n ≡ 0 → ⊥) (h : n * 5 ≤ length 
   pub tagged_start : get_or a ((n - 1) * 5) 0 ≡ 1 → Tagged a n u a
   tagged_start e =
       let j : n ≡ suc (n - 1) = omega (arith, f) in
-      record { queue = ap (queue_of a) j ∙ tag_start a (n - 1) u (omega arith) e ∙ sym (ap (λ (k : ℕ). tag_last u (queue_of a k)) j);
-          others = outside_refl a }
+      record {
+        queue = ap (queue_of a) j ∙ tag_start a (n - 1) u (omega arith) e ∙ sym (ap (λ (k : ℕ). tag_last u (queue_of a k)) j);
+        others = outside_refl a;
+      }
 
   pub tagged_end : (get_or a ((n - 1) * 5) 0 ≡ 1 → ⊥) → Tagged a n u (set a ((n - 1) * 5 + 4) u)
   tagged_end g =

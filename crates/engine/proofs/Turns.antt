@@ -50,8 +50,14 @@ module _ (ns : List ℤ) (literals text : List ℕ) (capacity j body : ℕ) wher
 
   pub first_turn : {tokens scratch : List ℕ} {m : ParserState} → Ready ns literals text tokens scratch capacity j m
       → T tokens scratch m tokens scratch m
-  first_turn {m = m} r = record { ready = r; tokens_same = refl; scratch_same = refl; fuel = suc (length text - m.position);
-      enough = omega arith; runs = refl }
+  first_turn {m = m} r = record {
+    ready = r;
+    tokens_same = refl;
+    scratch_same = refl;
+    fuel = suc (length text - m.position);
+    enough = omega arith;
+    runs = refl;
+  }
 
   -- The body's Ok: it moved, and stays in the text.
   pub turned : {tokens scratch : List ℕ} {m v : ParserState} → Ready ns literals text tokens scratch capacity j m → Line ns body
@@ -59,7 +65,7 @@ module _ (ns : List ℤ) (literals text : List ℕ) (capacity j body : ℕ) wher
       → (m.position < v.position) × (v.position ≤ length text)
   turned {tokens} {scratch} {m} {v} r l s e =
       let w : After g m.position m.lookahead m.atomicity (length m.stack.lengths) (length m.queue) v =
-              kept ns literals text capacity tokens scratch j body m (Ok v) r e in
+      kept ns literals text capacity tokens scratch j body m (Ok v) r e in
       (moves_on ns literals text capacity tokens scratch j body m v r l s e, w.fit.edge.inside)
 
   -- From here on, where the loop began, and where it stands.
@@ -69,7 +75,7 @@ module _ (ns : List ℤ) (literals text : List ℕ) (capacity j body : ℕ) wher
         → {tokens' scratch' : List ℕ} → length tokens' ≡ length tokens → length scratch' ≡ length scratch → T tokens₀ scratch₀ m₀ tokens' scratch' v
     next_turn l s {v} e p q =
         let k : After g m.position m.lookahead m.atomicity (length m.stack.lengths) (length m.queue) v =
-                kept ns literals text capacity tokens scratch j body m (Ok v) w.ready e in
+        kept ns literals text capacity tokens scratch j body m (Ok v) w.ready e in
         let t : (m.position < v.position) × (v.position ≤ length text) = turned w.ready l s e in
         let h : length text - m.position < w.fuel = w.enough in
         record {
@@ -90,7 +96,7 @@ module _ (ns : List ℤ) (literals text : List ℕ) (capacity j body : ℕ) wher
           let h : length text - m.position < w.fuel = w.enough in
           ap (λ (z : Ending ParserState). Pest.round_end z (λ y. Pest.repeat (w.fuel - 1) F y)) e ∙ sym (unroll w.fuel F m (omega arith)) ∙ w.runs
           ∙ entry_open ns literals text capacity (Grammar.repeat B) true (λ f k. Pest.repeat (suc (length text - k.position)) (f B) k)
-              (λ room f k. refl) d j o m₀ i
+          (λ room f k. refl) d j o m₀ i
 
       pub repeat_err : {v : ParserState} → Err v ≡ F m → {y : Ending ParserState} → y ≡ Pest.optional (Err v)
           → y ≡ evaluated ns literals text capacity d (Grammar.repeat B) o
@@ -104,4 +110,4 @@ pub repeat_refused : (ns : List ℤ) (literals text : List ℕ) (capacity body :
 repeat_refused ns literals text capacity body {d} {m} {n} e =
     let B : Exp = tree_at ns literals body in
     entry_refused ns literals text capacity (Grammar.repeat B) true (λ f k. Pest.repeat (suc (length text - k.position)) (f B) k)
-        (λ room f k. refl) d m n e
+    (λ room f k. refl) d m n e

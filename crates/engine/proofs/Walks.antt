@@ -141,8 +141,10 @@ module _ (ns : List ℤ) (literals text : List ℕ) (capacity d : ℕ) where
       low_upto = (Climbs.low_in ns literals text capacity d fk top here.low here.high p w).1
 
       pub low_line : Line ns p.line
-      low_line = record { low = (Climbs.low_in ns literals text capacity d fk top here.low here.high p w).0;
-          high = omega (arith, low_upto, here.high) }
+      low_line = record {
+        low = (Climbs.low_in ns literals text capacity d fk top here.low here.high p w).0;
+        high = omega (arith, low_upto, here.high);
+      }
 
       pub top_last : p.count ≡ 0 → Fork (kind_at ns top) → ⊥
       top_last = Climbs.top_last ns literals text capacity d fk top here.low here.high p w
@@ -155,8 +157,14 @@ module _ (ns : List ℤ) (literals text : List ℕ) (capacity d : ℕ) where
 
       pub first_climb : {tokens scratch : List ℕ} {x : Ending ParserState} → x ≡ at_line p.line m
           → Climbing ns literals text capacity d top p.count tokens scratch x tokens scratch x p.count
-      first_climb {x = x} f = record { tokens_same = refl; scratch_same = refl; low = λ h. h; upto = omega arith;
-          fine = fine_line tokensₒ scratchₒ p.line m x r f; runs = λ _ e. e }
+      first_climb {x = x} f = record {
+        tokens_same = refl;
+        scratch_same = refl;
+        low = λ h. h;
+        upto = omega arith;
+        fine = fine_line tokensₒ scratchₒ p.line m x r f;
+        runs = λ _ e. e;
+      }
 
       some_below : Fork (kind_at ns top) → 1 ≤ p.count
       some_below fork = go (dec_le 1 p.count)
@@ -174,7 +182,7 @@ module _ (ns : List ℤ) (literals text : List ℕ) (capacity d : ℕ) where
 
       module _ {tokens₀ scratch₀ : List ℕ} {x₀ : Ending ParserState} (ut : length tokens₀ ≡ length tokensₒ) (us : length scratch₀ ≡ length scratchₒ)
           {tokens scratch : List ℕ} {x : Ending ParserState} {i : ℕ}
-              (c : Climbing ns literals text capacity d top p.count tokens₀ scratch₀ x₀ tokens scratch x i) where
+          (c : Climbing ns literals text capacity d top p.count tokens₀ scratch₀ x₀ tokens scratch x i) where
         -- The state from which a right side is evaluated.
         pub go_ready : (k : ℕ) {t : ParserState} → go t ≡ going k x → Ready ns literals text tokens scratch capacity d t
         go_ready k {t} f =
@@ -196,7 +204,7 @@ module _ (ns : List ℤ) (literals text : List ℕ) (capacity d : ℕ) where
           climbs y f m' e =
               let back : i - 1 ≡ j = omega (arith, above) in
               Climbs.climb_runs ns literals text capacity d fk top here.low here.high p w m' i x (omega (arith, above, o)) c.upto
-                  (c.runs m' e) l (q ∙ ap (spine_line ns top) (sym back)) n h y f
+              (c.runs m' e) l (q ∙ ap (spine_line ns top) (sym back)) n h y f
               ∙ ap (λ (k : ℕ). at_line (spine_line ns top k) m') back
 
           pub climb_go : {t : ParserState} → go t ≡ going n.kind x → {y : Ending ParserState} → y ≡ at_line n.b t

@@ -51,9 +51,10 @@ module _ (n m : ℕ) where
       go (Some k) = limit_counted k s.attempts.furthest
   laid_counted (Err s) = go s.tracker.cause
     where
-      go : (c : Option LimitKind) → Counted (laid n m (elim c as (λ _. Answer)
-          [ Some k ↦ of_limit k s.attempts.furthest
-          | None ↦ of_failure s.attempts.furthest (ascending s.attempts.positive) (ascending s.attempts.negative) ]))
+      go : (c : Option LimitKind) → Counted (laid n m (elim c as (λ _. Answer) [
+        | Some k ↦ of_limit k s.attempts.furthest
+        | None ↦ of_failure s.attempts.furthest (ascending s.attempts.positive) (ascending s.attempts.negative)
+      ]))
       go None = in_report s.attempts.furthest (ascending s.attempts.positive) (ascending s.attempts.negative)
       go (Some k) = limit_counted k s.attempts.furthest
   laid_counted (Stop (Cause.EmptyStack l)) = by_tokens (omega arith)
@@ -98,7 +99,7 @@ module _
   pub listed : Listed s l t before after r
   listed =
       let c : Counted (outcome_of b.answer b.tokens b.report) =
-              subst Counted (sym back_is) (answer_counted (Sheet.reading s node_area) (given l t)) in
+      subst Counted (sym back_is) (answer_counted (Sheet.reading s node_area) (given l t)) in
       record {
         written = rw (← listing_is) w.written;
         most = rw (← listing_is) (omega (arith, w.most, few _ c in_t in_r));

@@ -25,6 +25,7 @@ use Rattle.reading.specs.Grammar.{stack_push, stack_pop, stack_match_pop, restor
 use Rattle.reading.specs.Grammar.{trees, tree_at, rule_at, plain_line, plain}
 use Rattle.reading.specs.Nullable.{still_rows, stands_still, nullable, still_repeat}
 use Rattle.reading.specs.Outcome.{Input, Refusal, refuse, unless, good_text, first_of, tests, refusal}
+use Rattle.reading.proofs.Rows.{◌▹◌}
 use Rattle.reading.proofs.EdgeLaws as EdgeLaws
 use Rattle.reading.proofs.NullableLaws.{nullable_is}
 use Rattle.reading.proofs.Trees.{still, Steady, Literals, Calls, whole, Plain}
@@ -159,7 +160,7 @@ part_true : (x : List ℕ) (o n : ℤ) → literal_part x o n ≡ true → Part 
 part_true x o n e =
     let f : edge x (natural o + natural n) ≡ true = and_right (count o && count n && edge x (natural o)) (edge x (natural o + natural n)) e in
     let g : edge x (natural o) ≡ true = and_right (count o && count n) (edge x (natural o))
-            (and_left (count o && count n && edge x (natural o)) (edge x (natural o + natural n)) e) in
+    (and_left (count o && count n && edge x (natural o)) (edge x (natural o + natural n)) e) in
     record {
       inside = EdgeLaws.edge_inside x (natural o + natural n) f;
       text = EdgeLaws.part_whole x (natural o) (natural n) g f;
@@ -177,7 +178,7 @@ module _ (ns : List ℤ) (literals : List ℕ) (l : ℕ) (e : line_fits ns liter
   unfolding fields_fit
   row_true k q =
       let f : fields_fit ns literals l (node_at ns l) ≡ true =
-              and_right (between 1 20 (node_at ns l).kind) (fields_fit ns literals l (node_at ns l)) e in
+      and_right (between 1 20 (node_at ns l).kind) (fields_fit ns literals l (node_at ns l)) e in
       ap (λ (j : ℕ). get_or (field_rows ns literals l (node_at ns l)) (j - 1) false) (sym q) ∙ f
 
   -- The first and the second of a row's three tests.
@@ -200,8 +201,10 @@ module _ (ns : List ℤ) (literals : List ℕ) (l : ℕ) (e : line_fits ns liter
         known_high = w.1;
         part₁ = λ q. part_true literals n.a n.b (and_left _ (nil n.c) (row_true 1 q));
         part₂ = λ q. part_true literals n.a n.b (and_left _ (nil n.c) (row_true 2 q));
-        scalars₃ = λ q. (scalar_true n.a (first (scalar n.a) (scalar n.b) nc (row_true 3 q)),
-            scalar_true n.b (second (scalar n.a) (scalar n.b) nc (row_true 3 q)));
+        scalars₃ = λ q. (
+          scalar_true n.a (first (scalar n.a) (scalar n.b) nc (row_true 3 q)),
+          scalar_true n.b (second (scalar n.a) (scalar n.b) nc (row_true 3 q)),
+        );
         a₆ = λ q. lower_true l n.a (first la lb nc (row_true 6 q));
         b₆ = λ q. lower_true l n.b (second la lb nc (row_true 6 q));
         a₇ = λ q. lower_true l n.a (first la lb nc (row_true 7 q));
@@ -231,9 +234,9 @@ tree_rows literals lower line n =
     let b : ℕ = natural n.b in
     let literal : List ℕ = take b (drop a literals) in
     match_string literal ∷ match_insensitive literal ∷ match_range a b ∷ skip a ∷ end_of_input ∷ and_then (lower a) (lower b)
-        ∷ or_else (lower a) (lower b)
+    ∷ or_else (lower a) (lower b)
     ∷ rule line a (lower b) ∷ sequence (lower a) ∷ repeat (lower a) ∷ optional (lower a) ∷ lookahead (eqb b 1) (lower a)
-        ∷ atomic (atomicity_of b) (lower a)
+    ∷ atomic (atomicity_of b) (lower a)
     ∷ stack_push line (lower a) ∷ stack_pop line ∷ peek_slice n ∷ stack_match_pop line ∷ restore_on_err (lower a) ∷ tag_node a ∷ call a ∷ []
 
 module _ (ns : List ℤ) (literals : List ℕ) where
@@ -273,7 +276,7 @@ module _ (ns : List ℤ) (literals : List ℕ) where
   tree_step (suc k) lo hi =
       let e : suc k - 1 ≡ k = omega arith in
       look_up (line_count ns) (suc k) (suc k) (omega arith) (omega arith) hi ∙ look_new k
-          ∙ ap (λ (m : ℕ). tree_of literals (trees ns literals m) (suc k) (node_at ns (suc k))) (sym e)
+      ∙ ap (λ (m : ℕ). tree_of literals (trees ns literals m) (suc k) (node_at ns (suc k))) (sym e)
 
   lower_tree : (l x : ℕ) → l ≤ line_count ns → Lower l x → below_at (l - 1) x ≡ tree_at ns literals x
   lower_tree l x hi w = sym (look_up (line_count ns) (l - 1) x w.low (omega (arith, w.high)) (omega (arith, w.high, w.low)))
@@ -292,11 +295,6 @@ module _ {A B : Type 0} (R : A → B → Type 0) (k : ℕ) where
   each_at i (x ∷ xs) [] h j e l a b = absurd h
   each_at i (x ∷ xs) (y ∷ ys) h zero e l a b = h.0 (omega arith)
   each_at i (x ∷ xs) (y ∷ ys) h (suc j) e l a b = each_at (suc i) xs ys h.1 j (omega arith) (omega arith) a b
-
-infixr 20 ◌▹◌
--- A row, and those after it.
-abbrev ◌▹◌ : {A B : Type 0} → A → B → A × B
-u ▹ v = (u, v)
 
 module _ (ns : List ℤ) (literals : List ℕ) (g : Accepted ns literals) (l : ℕ) (lo : 1 ≤ l) (hi : l ≤ line_count ns) where
   pub facts : Fits ns literals l
@@ -321,7 +319,7 @@ module _ (ns : List ℤ) (literals : List ℕ) (g : Accepted ns literals) (l : �
       let f : Fits ns literals l = facts in
       tree_step ns literals l lo hi
       ∙ by_kind (λ x y. x ≡ y) (tree_rows literals (below_at ns literals (l - 1)) l n) (tree_rows literals (tree_at ns literals) l n)
-          end_of_input end_of_input refl
+      end_of_input end_of_input refl
       ((λ q. refl) ▹ (λ q. refl) ▹ (λ q. refl) ▹ (λ q. refl) ▹ (λ q. refl) ▹ (λ q. ap₂ and_then (down a (f.a₆ q)) (down b (f.b₆ q)))
       ▹ (λ q. ap₂ or_else (down a (f.a₇ q)) (down b (f.b₇ q))) ▹ (λ q. ap (rule l a) (down b (f.b₈ q)))
       ▹ (λ q. ap sequence (down a (f.a₉ q))) ▹ (λ q. ap repeat (down a (f.a₁₀ q))) ▹ (λ q. ap optional (down a (f.a₁₁ q)))
@@ -354,8 +352,8 @@ module _ (ns : List ℤ) (literals : List ℕ) (g : Accepted ns literals) where
     every_line =
         by_lines (λ l. P (tree_at ns literals l))
         (λ l i ih. subst P (sym (tree_row ns literals g l i.0 i.1))
-            (by_kind ns literals g l i.0 i.1 (λ (x y : Exp). P x) (tree_rows literals (tree_at ns literals) l (node_at ns l))
-            (tree_rows literals (tree_at ns literals) l (node_at ns l)) end_of_input end_of_input refl (each l i ih)))
+        (by_kind ns literals g l i.0 i.1 (λ (x y : Exp). P x) (tree_rows literals (tree_at ns literals) l (node_at ns l))
+        (tree_rows literals (tree_at ns literals) l (node_at ns l)) end_of_input end_of_input refl (each l i ih)))
 
     -- Line 0 reads as line 1, and past the lines stands `end_of_input`.
     pub everywhere : P end_of_input → (l : ℕ) → P (tree_at ns literals l)
@@ -453,8 +451,8 @@ module _ (ns : List ℤ) (literals : List ℕ) (g : Accepted ns literals) (set :
       let w : Lower l (natural (node_at ns l).b) = body_lower ns literals g l r in
       tree_still (natural (node_at ns l).b) (w.low, omega (arith, w.high, r.high))
       ∙ sym (nullable_is ns l r.low r.high ∙ ap (λ (k : ℕ).
-          get_or (still_rows (eqb (natural (node_at ns l).a) 0) (eqb (natural (node_at ns l).b) 0) (nullable ns (natural (node_at ns l).a))
-          (nullable ns (natural (node_at ns l).b))) (k - 1) false) r.kind_is)
+      get_or (still_rows (eqb (natural (node_at ns l).a) 0) (eqb (natural (node_at ns l).b) 0) (nullable ns (natural (node_at ns l).a))
+      (nullable ns (natural (node_at ns l).b))) (k - 1) false) r.kind_is)
 
 -- The set for laws that speak of every number as a line: a rule as the set says, any other line may.
 abbrev pub rule_still : List ℤ → ℕ → Bool
@@ -503,7 +501,7 @@ module _ (ns : List ℤ) (literals : List ℕ) (g : Accepted ns literals) (p : p
       let n : Node = node_at ns l in
       ap whole (tree_row ns literals g l i.0 i.1)
       ∙ by_kind ns literals g l i.0 i.1 (λ (x y : Exp). whole x ≡ true) (tree_rows literals (tree_at ns literals) l n)
-          (tree_rows literals (tree_at ns literals) l n) end_of_input end_of_input refl
+      (tree_rows literals (tree_at ns literals) l n) end_of_input end_of_input refl
       ((λ q. refl) ▹ (λ q. refl) ▹ (λ q. refl) ▹ (λ q. refl) ▹ (λ q. refl) ▹ (λ q. six_no l e q) ▹ (λ q. refl) ▹ (λ q. refl) ▹ (λ q. refl)
       ▹ (λ q. refl) ▹ (λ q. refl) ▹ (λ q. refl) ▹ (λ q. refl) ▹ (λ q. refl) ▹ (λ q. refl) ▹ (λ q. refl) ▹ (λ q. refl) ▹ (λ q. refl)
       ▹ (λ q. refl) ▹ (λ q. refl) ▹ tt)
@@ -523,10 +521,14 @@ module _ (ns : List ℤ) (literals : List ℕ) (g : Accepted ns literals) (p : p
         let f : Fits ns literals l = facts ns literals g l i.0 i.1 in
         let r : (k : ℕ) → kind_at ns l ≡ k → get_or (plain_rows (not_six ns a) (not_six ns b)) (k - 1) false ≡ true = plain_row l i in
         let one : Lower l a → not_six ns a ≡ true → Plain (tree_at ns literals a) × (whole (tree_at ns literals a) ≡ true) =
-                λ w e. (ih a w, whole_at a (inside a w) e) in
+        λ w e. (ih a w, whole_at a (inside a w) e) in
         ((λ q. tt) ▹ (λ q. tt) ▹ (λ q. tt) ▹ (λ q. tt) ▹ (λ q. tt) ▹ (λ q. (ih a (f.a₆ q), ih b (f.b₆ q)))
-        ▹ (λ q. (ih a (f.a₇ q), ih b (f.b₇ q), whole_at a (inside a (f.a₇ q)) (and_left (not_six ns a) (not_six ns b) (r 7 q)),
-            whole_at b (inside b (f.b₇ q)) (and_right (not_six ns a) (not_six ns b) (r 7 q))))
+        ▹ (λ q. (
+          ih a (f.a₇ q),
+          ih b (f.b₇ q),
+          whole_at a (inside a (f.a₇ q)) (and_left (not_six ns a) (not_six ns b) (r 7 q)),
+          whole_at b (inside b (f.b₇ q)) (and_right (not_six ns a) (not_six ns b) (r 7 q)),
+        ))
         ▹ (λ q. (ih b (f.b₈ q), whole_at b (inside b (f.b₈ q)) (r 8 q))) ▹ (λ q. ih a (f.a₉ q)) ▹ (λ q. one (f.a₁₀ q) (r 10 q))
         ▹ (λ q. one (f.a₁₁ q) (r 11 q)) ▹ (λ q. one (f.a₁₂ q) (r 12 q)) ▹ (λ q. one (f.a₁₃ q) (r 13 q)) ▹ (λ q. never 14 q refl)
         ▹ (λ q. never 15 q refl) ▹ (λ q. never 16 q refl) ▹ (λ q. never 17 q refl) ▹ (λ q. never 18 q refl) ▹ (λ q. tt) ▹ (λ q. tt) ▹ tt)

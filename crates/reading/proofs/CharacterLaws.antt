@@ -78,7 +78,7 @@ module _ (low high from to : ℕ) (l : 0x80 ≤ from) (h : to ≤ 0xBF) where
   form_four i j least (a ∷ t ∷ u ∷ w ∷ x) v e q =
       let r : (low ≤ a) × (a ≤ high) = in_first low high a (fits (range from to ∷ tail ∷ tail ∷ []) (t ∷ u ∷ w ∷ x)) e in
       let e₁ : fits (range from to ∷ tail ∷ tail ∷ []) (t ∷ u ∷ w ∷ x) ≡ true =
-              in_rest low high a (fits (range from to ∷ tail ∷ tail ∷ []) (t ∷ u ∷ w ∷ x)) e in
+      in_rest low high a (fits (range from to ∷ tail ∷ tail ∷ []) (t ∷ u ∷ w ∷ x)) e in
       let s : (from ≤ t) × (t ≤ to) = in_first from to t (fits (tail ∷ tail ∷ []) (u ∷ w ∷ x)) e₁ in
       let e₂ : fits (tail ∷ tail ∷ []) (u ∷ w ∷ x) ≡ true = in_rest from to t (fits (tail ∷ tail ∷ []) (u ∷ w ∷ x)) e₁ in
       let k : (0x80 ≤ u) × (u ≤ 0xBF) = in_first 0x80 0xBF u (fits (tail ∷ []) (w ∷ x)) e₂ in
@@ -260,7 +260,7 @@ module _ (same : ℕ → ℕ → Bool) (h : Ascii same) where
       more (omega (arith, p), omega (arith, p)) (omega (arith, p, p₁), omega (arith, p, p₁))
   compare l x c d v w (two a t v' l' p p₁ e) (two b s w' x' q q₁ f) =
       of_two (omega (arith, p), omega (arith, p₁), omega (arith, p, p₁)) (λ (z : v ≡ w). (omega (arith, p₁, q₁), omega (arith, p₁, q₁)))
-          (λ (z : a ≡ b) (z₁ : t ≡ s). omega arith)
+      (λ (z : a ≡ b) (z₁ : t ≡ s). omega arith)
   compare l x c d v w (two a t v' l' p p₁ e) (three b s r w' x' q q₁ q₂ f m) =
       less (omega (arith, p, q), omega (arith, q)) (omega (arith, p, p₁), omega arith)
   compare l x c d v w (two a t v' l' p p₁ e) (four b s r j w' x' q q₁ q₂ q₃ f m) =
@@ -271,7 +271,7 @@ module _ (same : ℕ → ℕ → Bool) (h : Ascii same) where
   compare l x c d v w (three a t u v' l' p p₁ p₂ e k) (three b s r w' x' q q₁ q₂ f m) =
       of_three (omega (arith, p), omega (arith, p₁), omega (arith, p₂), omega arith)
       (λ (z : v ≡ w). (omega (arith, p₁, p₂, q₁, q₂), omega (arith, p₁, p₂, q₁, q₂), omega (arith, p₁, p₂, q₁, q₂)))
-          (λ (z : a ≡ b) (z₁ : t ≡ s) (z₂ : u ≡ r). omega arith)
+      (λ (z : a ≡ b) (z₁ : t ≡ s) (z₂ : u ≡ r). omega arith)
   compare l x c d v w (three a t u v' l' p p₁ p₂ e k) (four b s r j w' x' q q₁ q₂ q₃ f m) =
       less (omega (arith, p, q), omega (arith, q)) (omega (arith, p, p₁, p₂), omega arith)
   compare l x c d v w (four a t u i v' l' p p₁ p₂ p₃ e k) (one b w' x' q f) = more (omega (arith, p), omega (arith, p)) (omega arith, omega arith)
@@ -281,8 +281,12 @@ module _ (same : ℕ → ℕ → Bool) (h : Ascii same) where
       more (omega (arith, p, q), omega (arith, p)) (omega (arith, q, q₁, q₂), omega arith)
   compare l x c d v w (four a t u i v' l' p p₁ p₂ p₃ e k) (four b s r j w' x' q q₁ q₂ q₃ f m) =
       of_four (omega (arith, p), omega (arith, p₁), omega (arith, p₂), omega (arith, p₃), omega arith)
-      (λ (z : v ≡ w). (omega (arith, p₁, p₂, p₃, q₁, q₂, q₃), omega (arith, p₁, p₂, p₃, q₁, q₂, q₃), omega (arith, p₁, p₂, p₃, q₁, q₂, q₃),
-          omega (arith, p₁, p₂, p₃, q₁, q₂, q₃)))
+      (λ (z : v ≡ w). (
+        omega (arith, p₁, p₂, p₃, q₁, q₂, q₃),
+        omega (arith, p₁, p₂, p₃, q₁, q₂, q₃),
+        omega (arith, p₁, p₂, p₃, q₁, q₂, q₃),
+        omega (arith, p₁, p₂, p₃, q₁, q₂, q₃),
+      ))
       (λ (z : a ≡ b) (z₁ : t ≡ s) (z₂ : u ≡ r) (z₃ : i ≡ j). omega arith)
 
   pub compared : (l x : List ℕ) (c d : Character) → decode l ≡ Some c → decode x ≡ Some d → Compared same l x c.size d.size c.value d.value

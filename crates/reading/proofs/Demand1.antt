@@ -19,6 +19,7 @@ use Rattle.reading.specs.Outcome.{Input, Refusal, refuse, unless, good_text, fir
 use Rattle.reading.specs.Outcome.{of_tokens, of_failure, ascending, Outcome, refused, started, outcome}
 use Rattle.reading.specs.Run.{Ran}
 use Rattle.reading.specs.Demand1.{Refused, Ended, with_tokens, without, Demand1}
+use Rattle.reading.proofs.Rows.{◌▹◌}
 use Rattle.reading.proofs.Runs.{run_bounded, outcome_is}
 
 -- ── Refused ──
@@ -37,11 +38,10 @@ refuse_numbered n (Some p) l h r e = let q : n ≡ r.number = cc in (omega arith
 
 -- The tests 4 to 9 refuse by their numbers, whatever they find.
 numbered : (a b c d e f : Option ℕ) → Numbered (refuse 4 a ∷ refuse 5 b ∷ refuse 6 c ∷ refuse 7 d ∷ refuse 8 e ∷ refuse 9 f ∷ [])
-numbered a b c d e f = (refuse_numbered 4 a (omega arith) (omega arith),
-    (refuse_numbered 5 b (omega arith) (omega arith),
-    (refuse_numbered 6 c (omega arith) (omega arith),
-    (refuse_numbered 7 d (omega arith) (omega arith),
-    (refuse_numbered 8 e (omega arith) (omega arith), (refuse_numbered 9 f (omega arith) (omega arith), tt))))))
+numbered a b c d e f =
+    refuse_numbered 4 a (omega arith) (omega arith) ▹ refuse_numbered 5 b (omega arith) (omega arith)
+    ▹ refuse_numbered 6 c (omega arith) (omega arith) ▹ refuse_numbered 7 d (omega arith) (omega arith)
+    ▹ refuse_numbered 8 e (omega arith) (omega arith) ▹ refuse_numbered 9 f (omega arith) (omega arith) ▹ tt
 
 refusal_numbered : (i : Input) (r : Refusal) → refusal i ≡ Some r → (4 ≤ r.number) × (r.number ≤ 9)
 unfolding refusal
@@ -62,9 +62,10 @@ ended (Ok s) = go s.tracker.cause
     go (Some k) = limit_ended k s.attempts.furthest
 ended (Err s) = go s.tracker.cause
   where
-    go : (c : Option LimitKind) → Ended (elim c as (λ _. Answer)
-        [ Some k ↦ of_limit k s.attempts.furthest
-        | None ↦ of_failure s.attempts.furthest (ascending s.attempts.positive) (ascending s.attempts.negative) ]).number
+    go : (c : Option LimitKind) → Ended (elim c as (λ _. Answer) [
+      | Some k ↦ of_limit k s.attempts.furthest
+      | None ↦ of_failure s.attempts.furthest (ascending s.attempts.positive) (ascending s.attempts.negative)
+    ]).number
     go None = without 10 (omega arith) (omega arith)
     go (Some k) = limit_ended k s.attempts.furthest
 ended (Stop (Cause.EmptyStack l)) = without 13 (omega arith) (omega arith)

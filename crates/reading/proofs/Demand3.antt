@@ -40,9 +40,10 @@ numbered (Ok s) = go s.tracker.cause refl
 numbered (Err s) = go s.tracker.cause refl
   where
     go : (c : Option LimitKind) → s.tracker.cause ≡ c
-        → Numbered (Err s) (elim c as (λ _. Answer)
-            [ Some k ↦ of_limit k s.attempts.furthest
-            | None ↦ of_failure s.attempts.furthest (ascending s.attempts.positive) (ascending s.attempts.negative) ]).number
+        → Numbered (Err s) (elim c as (λ _. Answer) [
+          | Some k ↦ of_limit k s.attempts.furthest
+          | None ↦ of_failure s.attempts.furthest (ascending s.attempts.positive) (ascending s.attempts.negative)
+        ]).number
     go None e = is_10 s.attempts (fails s e)
     go (Some k) e = limit_number (Err s) k s.attempts.furthest
 numbered (Stop (Cause.EmptyStack l)) = is_other 13 (omega arith)
@@ -110,8 +111,13 @@ module _ (i : Input) (e : refusal i ≡ None) where
   report_room = (Accepted.started i e).report_room
 
   pub each : Each i (outcome i)
-  each = record { zero_exactly = zero_exactly; ten_exactly = ten_exactly; tokens_laid = tokens_laid; count_laid = count_laid;
-      report_laid = report_laid }
+  each = record {
+    zero_exactly = zero_exactly;
+    ten_exactly = ten_exactly;
+    tokens_laid = tokens_laid;
+    count_laid = count_laid;
+    report_laid = report_laid;
+  }
 
 -- ── Any two started runs ──
 module _ (i j : Input) (e : refusal i ≡ None) (d : refusal j ≡ None) where
@@ -130,13 +136,13 @@ module _ (i j : Input) (e : refusal i ≡ None) (d : refusal j ≡ None) where
   -- set of positive rules and the same set of negative rules."
   pub same_reports : (a b : Attempts) → Fails (reading i) a → Fails (reading j) b
       → (error_report (outcome i) ≡ error_report (outcome j)) ↔ ((a.furthest ≡ b.furthest) × SameSet a.positive b.positive
-          × SameSet a.negative b.negative)
+      × SameSet a.negative b.negative)
   same_reports a b p q =
       subst (λ (x : List ℕ). (take 515 x ≡ error_report (outcome j)) ↔ Same) (sym (report_laid i e a p))
       (subst (λ (x : List ℕ). (take 515 (filled (length i.report) (report_of a.furthest (ascending a.positive) (ascending a.negative)))
-          ≡ take 515 x) ↔ Same) (sym (report_laid j d b q))
+      ≡ take 515 x) ↔ Same) (sym (report_laid j d b q))
       (report_exact (length i.report) (length j.report) a.furthest b.furthest a.positive a.negative b.positive b.negative (report_room i e)
-          (report_room j d) (few i e a p) (few j d b q)))
+      (report_room j d) (few i e a p) (few j d b q)))
     where
       Same : Type 0
       Same = (a.furthest ≡ b.furthest) × SameSet a.positive b.positive × SameSet a.negative b.negative

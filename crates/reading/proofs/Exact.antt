@@ -74,7 +74,7 @@ tokens_inj n (add f r t s z c) (add g r' t' s' z' c') e =
     let l : length (tokens_from n f) ≡ length (tokens_from n g) = length_tokens n f ∙ sz ∙ sym (length_tokens n g) in
     let u : (tokens_from n f ≡ tokens_from n g) × (S ≡ S') × (C ≡ C') = split (tokens_from n f) C (tokens_from n g) C' S E S' E' l e in
     add_path (tokens_inj n f g u.0) (ap (λ (k : Token). k.rule) pe) (ap (λ (k : Token). k.tag) pe) (ap (λ (k : Token). k.position) u.1)
-        (ap (λ (k : Token). k.position) pe)
+    (ap (λ (k : Token). k.position) pe)
     (tokens_inj (suc (n + size f)) c c' (u.2 ∙ ap (λ (k : ℕ). tokens_from (suc (n + k)) c') (sym sz)))
 
 -- Demand 3, tokens.
@@ -110,8 +110,10 @@ length_numbers (t ∷ ts) = omega (arith, length_numbers ts)
 -- The first `count` tokens of two areas, as numbers.
 pub tokens_area_exact : (m n : ℕ) (f g : Forest)
     → (take (length (tokens f) * 5) (filled m (numbers (tokens f))) ≡ take (length (tokens g) * 5) (filled n (numbers (tokens g)))) ↔ (f ≡ g)
-tokens_area_exact m n f g = (λ e. tokens_inj 0 f g (numbers_inj (tokens f) (tokens g) (sym (first m f) ∙ e ∙ first n g)), λ (p : f ≡ g).
-    first m f ∙ ap (λ (h : Forest). numbers (tokens h)) p ∙ sym (first n g))
+tokens_area_exact m n f g = (
+  λ e. tokens_inj 0 f g (numbers_inj (tokens f) (tokens g) (sym (first m f) ∙ e ∙ first n g)),
+  λ (p : f ≡ g). first m f ∙ ap (λ (h : Forest). numbers (tokens h)) p ∙ sym (first n g),
+)
   where
     first : (m : ℕ) (f : Forest) → take (length (tokens f) * 5) (filled m (numbers (tokens f))) ≡ numbers (tokens f)
     first m f = rw (← length_numbers (tokens f)) (take_filled m (numbers (tokens f)))
@@ -217,8 +219,10 @@ ascends (x ∷ l) = asc_insert x (ascending l) (ascends l)
 
 pub same_members : (l : List ℕ) → SameSet (ascending l) l
 same_members [] y = (λ m. m, λ m. m)
-same_members (x ∷ l) y = (λ m. down (mem_insert x (ascending l) y m) (same_members l y).0, λ m.
-    in_insert x (ascending l) y (up (Memᴰ.cases_cons m) (same_members l y).1))
+same_members (x ∷ l) y = (
+  λ m. down (mem_insert x (ascending l) y m) (same_members l y).0,
+  λ m. in_insert x (ascending l) y (up (Memᴰ.cases_cons m) (same_members l y).1),
+)
   where
     down : (y ≡ x) ⊎ Memᴰ y (ascending l) → (Memᴰ y (ascending l) → Memᴰ y l) → Memᴰ y (x ∷ l)
     down (inl e) f = Memᴰ.head e
@@ -321,7 +325,7 @@ report_exact n n' f f' ps ns ps' ns' h h' k k' = (to, from)
     to : report_area n f ps ns ≡ report_area n' f' ps' ns' → (f ≡ f') × SameSet ps ps' × SameSet ns ns'
     to e =
         let u : (f ≡ f') × (ascending ps ≡ ascending ps') × (ascending ns ≡ ascending ns') =
-                report_inj f f' (ascending ps) (ascending ns) (ascending ps') (ascending ns') _ _ (sym split ∙ e ∙ split') in
+        report_inj f f' (ascending ps) (ascending ns) (ascending ps') (ascending ns') _ _ (sym split ∙ e ∙ split') in
         (u.0, by_lists ps ps' u.1, by_lists ns ns' u.2)
 
     from : (f ≡ f') × SameSet ps ps' × SameSet ns ns' → report_area n f ps ns ≡ report_area n' f' ps' ns'

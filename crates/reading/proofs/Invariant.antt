@@ -96,8 +96,11 @@ module _ (text : List ℕ) where
   whole_pop x rest p [] u r q = record { cache = r; popped = q }
   whole_pop x rest p (k ∷ ks) u r q = go (eqb (suc (length rest)) k.lowest)
     where
-      go : (b : Bool) → Whole (if b then record { cache = rest; popped = x ∷ p;
-          lengths = record { height = k.height; lowest = k.lowest - 1 } ∷ ks } else record { cache = rest; popped = p; lengths = k ∷ ks })
+      go : (b : Bool) → Whole (if b then record {
+        cache = rest;
+        popped = x ∷ p;
+        lengths = record { height = k.height; lowest = k.lowest - 1 } ∷ ks;
+      } else record { cache = rest; popped = p; lengths = k ∷ ks })
       go true = record { cache = r; popped = (u, q) }
       go false = record { cache = r; popped = q }
 
@@ -105,9 +108,11 @@ module _ (text : List ℕ) where
       → Whole (Pest.clear_snapshot (record { cache = c; popped = p; lengths = ks }))
   whole_clear c p [] u q = record { cache = u; popped = q }
   whole_clear c p (k ∷ []) u q = record { cache = u; popped = drop_entries (k.height - k.lowest) p q }
-  whole_clear c p (k ∷ l ∷ ks) u q = record { cache = u;
-      popped = append_entries (take (l.lowest - min l.lowest k.lowest) p) (drop (k.height - k.lowest) p)
-      (take_entries (l.lowest - min l.lowest k.lowest) p q) (drop_entries (k.height - k.lowest) p q) }
+  whole_clear c p (k ∷ l ∷ ks) u q = record {
+    cache = u;
+    popped = append_entries (take (l.lowest - min l.lowest k.lowest) p) (drop (k.height - k.lowest) p)
+        (take_entries (l.lowest - min l.lowest k.lowest) p q) (drop_entries (k.height - k.lowest) p q);
+  }
 
   pub whole_restore : (c p : List Span) (ks : List Checkpoint) → Entries text c → Entries text p
       → Whole (Pest.restore (record { cache = c; popped = p; lengths = ks }))
@@ -121,10 +126,16 @@ module _ (text : List ℕ) where
       kept true = drop_entries (length c - k.lowest) c u
       kept false = u
 
-      go : (b d : Bool) → Whole (if d then record { cache = reverse (take n p) ++ (if b then Pest.truncate k.lowest c else c);
-          popped = drop n p; lengths = ks } else record { cache = if b then Pest.truncate k.lowest c else c; popped = p; lengths = ks })
-      go b true = record { cache = append_entries (reverse (take n p)) (if b then Pest.truncate k.lowest c
-          else c) (reverse_entries (take n p) (take_entries n p q)) (kept b); popped = drop_entries n p q }
+      go : (b d : Bool) → Whole (if d then record {
+        cache = reverse (take n p) ++ (if b then Pest.truncate k.lowest c else c);
+        popped = drop n p;
+        lengths = ks;
+      } else record { cache = if b then Pest.truncate k.lowest c else c; popped = p; lengths = ks })
+      go b true = record {
+        cache = append_entries (reverse (take n p)) (if b then Pest.truncate k.lowest c
+            else c) (reverse_entries (take n p) (take_entries n p q)) (kept b);
+        popped = drop_entries n p q;
+      }
       go b false = record { cache = kept b; popped = q }
 
 -- ── From one state to a later one ──
@@ -189,16 +200,30 @@ module _ (g : Setting) where
 
   -- ── A match, or none ──
   pub moved_fit : (m : ParserState) (q : ℕ) → Fit g m → Edge g.text q → Fit g (Pest.set_position q m)
-  moved_fit m q x e = record { edge = e; entries = x.entries; saved = x.saved; sound = x.sound; room = x.room; inside = x.inside;
-      positives = x.positives; negatives = x.negatives }
+  moved_fit m q x e = record {
+    edge = e;
+    entries = x.entries;
+    saved = x.saved;
+    sound = x.sound;
+    room = x.room;
+    inside = x.inside;
+    positives = x.positives;
+    negatives = x.negatives;
+  }
 
   moved_keeps : (b : Bool) (least : ℕ) (m : ParserState) → Fit g m → (x : Option ℕ) → Lands g.text m.position x
       → Found (length g.text) m.position least x
       → (b ≡ false → 1 ≤ least) → KeepsFrom g b m (Pest.moved x m)
   moved_keeps b least m x y lands_not f h = keeps_err m (stay m x)
   moved_keeps b least m x y (lands q k e) (found q' f) h =
-      keeps_ok (Pest.set_position q m) (record { fit = moved_fit m q x e; on = k; look = refl; atom = refl; level = refl;
-          grown = omega arith }) (λ (i : b ≡ false). omega (arith, f.far, h i))
+      keeps_ok (Pest.set_position q m) (record {
+        fit = moved_fit m q x e;
+        on = k;
+        look = refl;
+        atom = refl;
+        level = refl;
+        grown = omega arith;
+      }) (λ (i : b ≡ false). omega (arith, f.far, h i))
 
   -- ── Entering ──
   entering_keeps : (room counts b : Bool) (k : ParserState → Ending ParserState) → Keeping g b k → Keeping g b (λ m. Pest.check_limit room counts m k)
@@ -217,32 +242,70 @@ module _ (g : Setting) where
 
   -- ── Checkpoints ──
   pub checkpoint_fit : (m : ParserState) → Fit g m → Fit g (Pest.checkpoint m)
-  checkpoint_fit m x = record { edge = x.edge; entries = x.entries; saved = x.saved; sound = sound_snapshot m.stack x.sound; room = x.room;
-      inside = x.inside; positives = x.positives; negatives = x.negatives }
+  checkpoint_fit m x = record {
+    edge = x.edge;
+    entries = x.entries;
+    saved = x.saved;
+    sound = sound_snapshot m.stack x.sound;
+    room = x.room;
+    inside = x.inside;
+    positives = x.positives;
+    negatives = x.negatives;
+  }
 
   pub cleared_fit : (m : ParserState) → Fit g m → Fit g (Pest.checkpoint_ok m)
   cleared_fit m x =
       let w : Whole g.text (Pest.clear_snapshot m.stack) = whole_clear g.text m.stack.cache m.stack.popped m.stack.lengths x.entries x.saved in
-      record { edge = x.edge; entries = w.cache; saved = w.popped; sound = sound_clear m.stack x.sound; room = x.room; inside = x.inside;
-          positives = x.positives; negatives = x.negatives }
+      record {
+        edge = x.edge;
+        entries = w.cache;
+        saved = w.popped;
+        sound = sound_clear m.stack x.sound;
+        room = x.room;
+        inside = x.inside;
+        positives = x.positives;
+        negatives = x.negatives;
+      }
 
   pub restored_fit : (m : ParserState) → Fit g m → Fit g (Pest.restored m)
   restored_fit m x =
       let w : Whole g.text (Pest.restore m.stack) = whole_restore g.text m.stack.cache m.stack.popped m.stack.lengths x.entries x.saved in
-      record { edge = x.edge; entries = w.cache; saved = w.popped; sound = sound_restore m.stack x.sound; room = x.room; inside = x.inside;
-          positives = x.positives; negatives = x.negatives }
+      record {
+        edge = x.edge;
+        entries = w.cache;
+        saved = w.popped;
+        sound = sound_restore m.stack x.sound;
+        room = x.room;
+        inside = x.inside;
+        positives = x.positives;
+        negatives = x.negatives;
+      }
 
   pub cut_fit : (m : ParserState) (i : ℕ) → Fit g m → Fit g (Pest.set_queue (take i m.queue) m)
-  cut_fit m i x = record { edge = x.edge; entries = x.entries; saved = x.saved; sound = x.sound;
-      room = omega (arith, length-take i m.queue, x.room); inside = x.inside; positives = x.positives; negatives = x.negatives }
+  cut_fit m i x = record {
+    edge = x.edge;
+    entries = x.entries;
+    saved = x.saved;
+    sound = x.sound;
+    room = omega (arith, length-take i m.queue, x.room);
+    inside = x.inside;
+    positives = x.positives;
+    negatives = x.negatives;
+  }
 
   -- The innermost checkpoint dropped, after Ok.
   dropped_keeps : {b : Bool} {p : ℕ} {l : Lookahead} {a : Atomicity} {marks held : ℕ} (n : ParserState) → After g p l a (suc marks) held n
       → (b ≡ false → p < n.position)
       → Keeps g b p l a marks held (Ok (Pest.checkpoint_ok n))
   dropped_keeps {marks = marks} n y i = keeps_ok (Pest.checkpoint_ok n)
-      (record { fit = cleared_fit n y.fit; on = y.on; look = y.look; atom = y.atom; level = omega (arith, lengths_clear n.stack, y.level);
-      grown = y.grown }) i
+      (record {
+        fit = cleared_fit n y.fit;
+        on = y.on;
+        look = y.look;
+        atom = y.atom;
+        level = omega (arith, lengths_clear n.stack, y.level);
+        grown = y.grown;
+      }) i
 
   sequence_keeps : (b : Bool) (f : ParserState → Ending ParserState) → Keeping g b f → Keeping g b (λ m. Pest.sequence f m)
   sequence_keeps b f h m x = go _ (h (Pest.checkpoint m) (checkpoint_fit m x))
@@ -394,14 +457,22 @@ module _ (g : Setting) where
           → (b ≡ false → m.position < n.position)
           → (c : Bool) → leb most_entries (length n.stack.cache) ≡ c
           → KeepsFrom g b m (stop_if c (Cause.StackFull line) (λ _.
-              Ok (Pest.set_stack (Pest.push (record { start = m.position; end = n.position }) n.stack) n)))
+          Ok (Pest.set_stack (Pest.push (record { start = m.position; end = n.position }) n.stack) n)))
       room n y i true e = keeps_stop _
       room n y i false e =
           let s : Span = record { start = m.position; end = n.position } in
           keeps_ok (Pest.set_stack (Pest.push s n.stack) n) (record {
-            fit = record { edge = y.fit.edge; entries = (span_whole g.text m.position n.position y.on x.edge y.fit.edge, y.fit.entries);
-                saved = y.fit.saved; sound = sound_push s n.stack y.fit.sound (leb-false most_entries (length n.stack.cache) e); room =
-                y.fit.room; inside = y.fit.inside; positives = y.fit.positives; negatives = y.fit.negatives };
+            fit = record {
+              edge = y.fit.edge;
+              entries = (span_whole g.text m.position n.position y.on x.edge y.fit.edge, y.fit.entries);
+              saved = y.fit.saved;
+              sound = sound_push s n.stack y.fit.sound (leb-false most_entries (length n.stack.cache) e);
+              room =
+                  y.fit.room;
+              inside = y.fit.inside;
+              positives = y.fit.positives;
+              negatives = y.fit.negatives;
+            };
             on = y.on;
             look = y.look;
             atom = y.atom;
@@ -420,14 +491,22 @@ module _ (g : Setting) where
   popped_fit x rest m e f d =
       let u : Entries g.text (x ∷ rest) = subst (Entries g.text) e f.entries in
       let w : Whole g.text (Pest.pop x rest m.stack) = whole_pop g.text x rest m.stack.popped m.stack.lengths u.0 u.1 f.saved in
-      record { edge = f.edge; entries = w.cache; saved = w.popped;
-          sound = sound_pop x rest m.stack e f.sound (ltb-false most_debt (debt (Pest.pop x rest m.stack).lengths) d); room =
-          f.room; inside = f.inside; positives = f.positives; negatives = f.negatives }
+      record {
+        edge = f.edge;
+        entries = w.cache;
+        saved = w.popped;
+        sound = sound_pop x rest m.stack e f.sound (ltb-false most_debt (debt (Pest.pop x rest m.stack).lengths) d);
+        room =
+            f.room;
+        inside = f.inside;
+        positives = f.positives;
+        negatives = f.negatives;
+      }
 
   popping_keeps : (line : ℕ) (x : Span) (rest : List Span) (m : ParserState) → m.stack.cache ≡ x ∷ rest → Fit g m
       → (k : ParserState → Ending ParserState)
       → (Fit g (Pest.set_stack (Pest.pop x rest m.stack) m)
-          → KeepsFrom g true (Pest.set_stack (Pest.pop x rest m.stack) m) (k (Pest.set_stack (Pest.pop x rest m.stack) m)))
+      → KeepsFrom g true (Pest.set_stack (Pest.pop x rest m.stack) m) (k (Pest.set_stack (Pest.pop x rest m.stack) m)))
       → KeepsFrom g true m (Pest.popping g.text true line x rest m k)
   popping_keeps line x rest m e f k h = room (ltb most_debt (debt (Pest.pop x rest m.stack).lengths)) refl
     where
@@ -459,7 +538,7 @@ module _ (g : Setting) where
       go [] e = keeps_stop _
       go (x ∷ rest) e = popping_keeps line x rest m e f (λ n. Pest.moved (Pest.match_string g.text (Pest.as_str g.text x) n.position) n)
           (λ w. landed_keeps (Pest.set_stack (Pest.pop x rest m.stack) m) w _
-              (entry_lands x (subst (Entries g.text) e f.entries).0 m.position f.edge))
+          (entry_lands x (subst (Entries g.text) e f.entries).0 m.position f.edge))
 
   pub cache_of_pop : (x : Span) (rest : List Span) (v : Stack) → (Pest.pop x rest v).cache ≡ rest
   cache_of_pop x rest v = go v.lengths
@@ -468,8 +547,11 @@ module _ (g : Setting) where
       go [] = refl
       go (k ∷ ks) = pick (eqb (suc (length rest)) k.lowest)
         where
-          pick : (b : Bool) → (if◌then◌else◌ {A = Stack} b (record { cache = rest; popped = x ∷ v.popped;
-              lengths = record { height = k.height; lowest = k.lowest - 1 } ∷ ks })
+          pick : (b : Bool) → (if◌then◌else◌ {A = Stack} b (record {
+            cache = rest;
+            popped = x ∷ v.popped;
+            lengths = record { height = k.height; lowest = k.lowest - 1 } ∷ ks;
+          })
               (record { cache = rest; popped = v.popped; lengths = k ∷ ks })).cache ≡ rest
           pick true = refl
           pick false = refl
@@ -481,7 +563,7 @@ module _ (g : Setting) where
       (record { fit = moved_fit m q f d; on = i; look = refl; atom = refl; level = refl; grown = omega arith }) not-true
   match_pop_keeps line (x ∷ rest) m e f q i d =
       popping_keeps line x rest m e f (λ n. elim (Pest.match_string g.text (Pest.as_str g.text x) q)
-          [ None ↦ Err n | Some r ↦ Pest.stack_match_pop g.text true line rest r n ])
+      [ None ↦ Err n | Some r ↦ Pest.stack_match_pop g.text true line rest r n ])
       (λ w. go w _ (entry_lands x (subst (Entries g.text) e f.entries).0 q d) (match_pop_keeps line rest n (cache_of_pop x rest m.stack) w))
     where
       n : ParserState
@@ -519,8 +601,10 @@ module _ (g : Setting) where
           m.position f.edge)
 
       second : (a : ℕ) (y : Option ℕ)
-          → KeepsFrom g true m (elim y [ None ↦ Err m
-              | Some z ↦ elim (leb z a) [ true ↦ Ok m | false ↦ Pest.moved (Pest.all_match g.text (Pest.slice a z d m.stack.cache) m.position) m ] ])
+          → KeepsFrom g true m (elim y [
+            | None ↦ Err m
+            | Some z ↦ elim (leb z a) [ true ↦ Ok m | false ↦ Pest.moved (Pest.all_match g.text (Pest.slice a z d m.stack.cache) m.position) m ]
+          ])
       second a None = unmoved
       second a (Some z) = third a z (leb z a)
 
@@ -551,8 +635,16 @@ module _ (g : Setting) where
       go : (b : Bool) → KeepsFrom g true m (if b then Ok m else Ok n)
       go true = keeps_ok m (stay m f) not-true
       go false = keeps_ok n (record {
-        fit = record { edge = f.edge; entries = f.entries; saved = f.saved; sound = f.sound;
-            room = omega (arith, length_tag u m.queue, f.room); inside = f.inside; positives = f.positives; negatives = f.negatives };
+        fit = record {
+          edge = f.edge;
+          entries = f.entries;
+          saved = f.saved;
+          sound = f.sound;
+          room = omega (arith, length_tag u m.queue, f.room);
+          inside = f.inside;
+          positives = f.positives;
+          negatives = f.negatives;
+        };
         on = omega arith;
         look = refl;
         atom = refl;
@@ -584,7 +676,7 @@ module _ (g : Setting) where
       → Noted m n → Noted m (f n)
   again f h {m} {n} x =
       let y : Noted (Pest.set_attempts x.furthest x.positive x.negative m) (f (Pest.set_attempts x.furthest x.positive x.negative m)) =
-              h (Pest.set_attempts x.furthest x.positive x.negative m) x.within_text in
+      h (Pest.set_attempts x.furthest x.positive x.negative m) x.within_text in
       rw x.same (record { furthest = y.furthest; positive = y.positive; negative = y.negative; same = y.same; within_text = y.within_text })
 
   track_noted : (r p pi ni prev : ℕ) → p ≤ length g.text → (m : ParserState) → m.attempt_pos ≤ length g.text → Noted m (Pest.track r p pi ni prev m)
@@ -603,7 +695,7 @@ module _ (g : Setting) where
       pushes m h =
           choose (eqb p m.attempt_pos)
           (choose (not (is_negative m.lookahead)) (noted m m.attempt_pos (m.pos_attempts ++ (r ∷ [])) m.neg_attempts h)
-              (noted m m.attempt_pos m.pos_attempts (m.neg_attempts ++ (r ∷ [])) h))
+          (noted m m.attempt_pos m.pos_attempts (m.neg_attempts ++ (r ∷ [])) h))
           (unnoted m h)
 
   or_left_false : (a b : Bool) → (a || b) ≡ false → (a ≡ false) × (b ≡ false)
@@ -614,7 +706,7 @@ module _ (g : Setting) where
   tracking_keeps : (due : Bool) (line r p pi ni prev : ℕ) → p ≤ length g.text
       → {b : Bool} {q : ℕ} {l : Lookahead} {a : Atomicity} {marks held : ℕ} (k : ParserState → Ending ParserState) (n : ParserState) → Fit g n
       → ((f : ℕ) (ps ns : List ℕ) → f ≤ length g.text → length ps ≤ most_attempts → length ns ≤ most_attempts
-          → Keeps g b q l a marks held (k (Pest.set_attempts f ps ns n)))
+      → Keeps g b q l a marks held (k (Pest.set_attempts f ps ns n)))
       → Keeps g b q l a marks held (Pest.tracking g true due line r p pi ni prev n k)
   tracking_keeps due line r p pi ni prev hp {b} {q} {l} {a} {marks} {held} k n f h = go (due && not (is_atomic n.atomicity))
     where
@@ -629,9 +721,9 @@ module _ (g : Setting) where
       on m x false e =
           let u : (ltb most_attempts (length m.pos_attempts) ≡ false) × (ltb most_attempts (length m.neg_attempts) ≡ false) = or_left_false _ _ e in
           let i : length x.positive ≤ most_attempts =
-                  omega (arith, ltb-false most_attempts (length m.pos_attempts) u.0, ap (λ (y : ParserState). length y.pos_attempts) x.same) in
+          omega (arith, ltb-false most_attempts (length m.pos_attempts) u.0, ap (λ (y : ParserState). length y.pos_attempts) x.same) in
           let j : length x.negative ≤ most_attempts =
-                  omega (arith, ltb-false most_attempts (length m.neg_attempts) u.1, ap (λ (y : ParserState). length y.neg_attempts) x.same) in
+          omega (arith, ltb-false most_attempts (length m.neg_attempts) u.1, ap (λ (y : ParserState). length y.neg_attempts) x.same) in
           rw x.same (h x.furthest x.positive x.negative x.within_text i j)
 
       go : (c : Bool) → Keeps g b q l a marks held (elim c [ false ↦ k n | true ↦ stop_if (full t) (Cause.AttemptsFull line) (λ _. k t) ])
@@ -640,16 +732,32 @@ module _ (g : Setting) where
 
   pub attempts_fit : (f : ℕ) (ps ns : List ℕ) (n : ParserState) → Fit g n → f ≤ length g.text → length ps ≤ most_attempts
       → length ns ≤ most_attempts → Fit g (Pest.set_attempts f ps ns n)
-  attempts_fit f ps ns n x h i j = record { edge = x.edge; entries = x.entries; saved = x.saved; sound = x.sound; room = x.room;
-      inside = h; positives = i; negatives = j }
+  attempts_fit f ps ns n x h i j = record {
+    edge = x.edge;
+    entries = x.entries;
+    saved = x.saved;
+    sound = x.sound;
+    room = x.room;
+    inside = h;
+    positives = i;
+    negatives = j;
+  }
 
   -- One token more.
   pub pushed_fit : (n : ParserState) (q : List QueueableToken) (t : QueueableToken) → Fit g n → length q ≡ length n.queue
       → leb g.capacity (length n.queue) ≡ false
       → Fit g (Pest.set_queue (q ++ (t ∷ [])) n)
-  pushed_fit n q t x l e = record { edge = x.edge; entries = x.entries; saved = x.saved; sound = x.sound;
-      room = omega (arith, length-append q (t ∷ []), leb-false g.capacity (length n.queue) e); inside = x.inside; positives =
-      x.positives; negatives = x.negatives }
+  pushed_fit n q t x l e = record {
+    edge = x.edge;
+    entries = x.entries;
+    saved = x.saved;
+    sound = x.sound;
+    room = omega (arith, length-append q (t ∷ []), leb-false g.capacity (length n.queue) e);
+    inside = x.inside;
+    positives =
+        x.positives;
+    negatives = x.negatives;
+  }
 
   -- The End of a rule that began at p with `index` tokens before it.
   close_keeps : {b : Bool} {p : ℕ} {l : Lookahead} {a : Atomicity} {marks held : ℕ} (line r index : ℕ) (n : ParserState)
@@ -698,20 +806,32 @@ module _ (g : Setting) where
       ends prev held l y (keeps_ok n w i) = tracking_keeps (is_negative n.lookahead) line r m.position pi ni prev x.edge.inside (λ t.
           Pest.close_rule g true line r (length m.queue) t) n w.fit
           (λ f ps ns j u v. close_keeps line r (length m.queue) (Pest.set_attempts f ps ns n)
-          (record { fit = attempts_fit f ps ns n w.fit j u v; on = w.on; look = w.look; atom = w.atom; level = w.level;
-              grown = omega (arith, w.grown) }) i)
+          (record {
+            fit = attempts_fit f ps ns n w.fit j u v;
+            on = w.on;
+            look = w.look;
+            atom = w.atom;
+            level = w.level;
+            grown = omega (arith, w.grown);
+          }) i)
       ends prev held l y (keeps_err n w) = tracking_keeps (not (is_negative n.lookahead)) line r m.position pi ni prev x.edge.inside (λ t.
           Err (if Pest.produces t then Pest.set_queue (take (length m.queue) t.queue) t else t)) n w.fit
           (λ f ps ns j u v. cut (Pest.set_attempts f ps ns n) (attempts_fit f ps ns n w.fit j u v) w.on w.look w.atom w.level
-              (omega (arith, w.grown)) (Pest.produces (Pest.set_attempts f ps ns n)))
+          (omega (arith, w.grown)) (Pest.produces (Pest.set_attempts f ps ns n)))
         where
           cut : (n : ParserState) → Fit g n → m.position ≤ n.position → n.lookahead ≡ m.lookahead → n.atomicity ≡ m.atomicity
               → length n.stack.lengths ≡ length m.stack.lengths
               → length m.queue ≤ length n.queue → (c : Bool)
-                  → KeepsFrom g b m (Err (if c then Pest.set_queue (take (length m.queue) n.queue) n else n))
+              → KeepsFrom g b m (Err (if c then Pest.set_queue (take (length m.queue) n.queue) n else n))
           cut n w o lk at lv gr true = keeps_err (Pest.set_queue (take (length m.queue) n.queue) n)
-              (record { fit = cut_fit n (length m.queue) w; on = o; look = lk; atom = at; level = lv;
-              grown = omega (arith, length-take (length m.queue) n.queue) })
+              (record {
+                fit = cut_fit n (length m.queue) w;
+                on = o;
+                look = lk;
+                atom = at;
+                level = lv;
+                grown = omega (arith, length-take (length m.queue) n.queue);
+              })
           cut n w o lk at lv gr false = keeps_err n (record { fit = w; on = o; look = lk; atom = at; level = lv; grown = gr })
       ends prev held l y (keeps_stop c) = keeps_stop c
 
@@ -768,13 +888,13 @@ module _ (g : Setting) (set : ℕ → Bool) (w : Tested g set) where
     pub level_keeps : (e : Exp) → Literals e → Steady set e → Keeping g (still set e) (level g true room d e)
     level_keeps (Grammar.match_string l) u y = λ m x. rw (← string_same g.text l m.position)
         (moved_keeps g (eqb (length l) 0) (length l) m x _ (string_lands g.text eqb eqb_keeps l u m.position x.edge)
-            (string_forward g.text eqb l m.position) (zero_or_more (length l)))
+        (string_forward g.text eqb l m.position) (zero_or_more (length l)))
     level_keeps (Grammar.match_insensitive l) u y = λ m x. rw (← folded_same g.text l u m.position x.edge.inside x.edge.whole)
         (moved_keeps g (eqb (length l) 0) (length l) m x _ (string_lands g.text same_folded folded_keeps l u m.position x.edge)
-            (string_forward g.text same_folded l m.position) (zero_or_more (length l)))
+        (string_forward g.text same_folded l m.position) (zero_or_more (length l)))
     level_keeps (Grammar.match_range a b) u y = λ m x. rw (← range_same g.text a b m.position)
         (moved_keeps g false 1 m x _ (char_lands g.text (within a b) m.position x.edge) (char_forward g.text (within a b) m.position) (λ e.
-            omega arith))
+        omega arith))
     level_keeps (Grammar.skip n) u y = λ m x. rw (← skip_same g.text n m.position x.edge.inside)
         (moved_keeps g (eqb n 0) n m x _ (skip_lands g.text n m.position x.edge) (skip_forward g.text n m.position) (zero_or_more n))
     level_keeps Grammar.end_of_input u y = end_keeps
@@ -802,7 +922,7 @@ module _ (g : Setting) (set : ℕ → Bool) (w : Tested g set) where
         let r : RuleLine = g.rule_at l in
         counted_keeps (set l) (λ m. Pest.rule g true r.line r.rule (d r.body) m)
         (rule_keeps g r.line r.rule (set l) (d r.body) (stiller (still set r.body) (set l) (d r.body) (w.closed l)
-            (h r.body (w.literals l) (w.steady l))))
+        (h r.body (w.literals l) (w.steady l))))
 
   pub refused_keeps : (e : Exp) → Literals e → Steady set e → Keeping g (still set e) (no_deeper g true e)
   refused_keeps e u y m x = keeps_err (no_room m) (stay g (no_room m) x)

@@ -2,6 +2,7 @@ pub mod StackLaws
 pub mod QueueLaws
 pub mod Exact
 pub mod SoundLaws
+pub mod Rows
 pub mod NullableLaws
 pub mod Trees
 pub mod Matchers

@@ -67,9 +67,10 @@ module _ (g : Setting) where
               → KeepsFrom g false (pest_of x.open_rules x.popped s) m
               → Stands t × (left_of t.position < left_of s.position)
           go y m q (sim_ok u p j l) (keeps_ok n w i) =
-              let z : u ≡ t = cc in
-              (subst Stands z (record { open_rules = x.open_rules; saves = x.saves; popped = p; good = j; fit = w.fit }),
-                  omega (arith, i refl, w.fit.edge.inside, ap (λ (v : State). v.position) z))
+              let z : u ≡ t = cc in (
+                subst Stands z (record { open_rules = x.open_rules; saves = x.saves; popped = p; good = j; fit = w.fit }),
+                omega (arith, i refl, w.fit.edge.inside, ap (λ (v : State). v.position) z),
+              )
           go y m q (sim_err u p j l) w = let z : ◌≡◌ {A = ℕ} 0 1 = cc in absurd (omega arith)
           go y m q (sim_stop c) w = let z : ◌≡◌ {A = ℕ} 0 1 = cc in absurd (omega arith)
 
@@ -79,14 +80,14 @@ pub repeat_is_loop : (g : Setting) (set : ℕ → Bool) (w : Tested g set) (dept
     → Loops Reading.limited (Reading.eval g depth e) s (Reading.rounds (most_rounds g s.position) (Reading.eval g depth e) s)
 repeat_is_loop g set w depth e u y b s x =
     reading_loop g (Reading.eval g depth e) (Pest.eval g true depth e) (eval_sim g set w depth e u y)
-        (subst (λ (c : Bool). Keeping g c (Pest.eval g true depth e)) b (eval_keeps g set w depth e u y))
+    (subst (λ (c : Bool). Keeping g c (Pest.eval g true depth e)) b (eval_keeps g set w depth e u y))
     (most_rounds g s.position) s x (omega arith)
 
 -- The same of pest's own, which nothing bounds, whatever it answers to rounds that are used up.
 pub pest_repeat_is_loop : (g : Setting) (set : ℕ → Bool) (w : Tested g set) (spent : ParserState
     → Ending ParserState) (depth : ℕ) (e : Exp) → Literals e → Steady set e → still set e ≡ false → (m : ParserState) → Free g m
     → Loops Pest.limit_reached (Pest.eval_with g false spent depth e) m
-        (Pest.loop spent (most_rounds g m.position) (Pest.eval_with g false spent depth e) m)
+    (Pest.loop spent (most_rounds g m.position) (Pest.eval_with g false spent depth e) m)
 pest_repeat_is_loop g set w spent depth e u y b m x =
     rounds_loop Pest.limit_reached body (λ n t. Pest.loop spent n body t) (λ r again. Pest.round_end r again)
     (λ n t. refl) (λ t again. refl) (λ t again. refl) (λ c again. refl)

@@ -68,7 +68,7 @@ module _ (text : List ℕ) where
       part f =
           let n : length l ≤ length x = starts_length same_folded l x f in
           rw (le-leb (length l) (length x) n) (edge_boundary x (length l)
-              (record { inside = n; whole = edge_after same_folded folded_keeps l u x v f }))
+          (record { inside = n; whole = edge_after same_folded folded_keeps l u x v f }))
 
       go : (b : Bool) → starts_by same_folded l x ≡ b → Position.match_insensitive text l p ≡ Pest.match_insensitive text l p
       go true f =
@@ -100,8 +100,8 @@ module _ (text : List ℕ) where
           let e : p + (len + c.size) ≡ p + len + c.size = omega arith in
           let h : p + (len + c.size) ≤ length text = omega (arith, f.fits) in
           ap (Position.skip text n) (sym e) ∙ ih c.size h
-              ∙ ap (λ (x : List ℕ). Pest.advance p (Pest.skipped n x (len + c.size))) (ap (λ (m : ℕ). drop m text) e
-              ∙ sym (drop-drop c.size (p + len) text))
+          ∙ ap (λ (x : List ℕ). Pest.advance p (Pest.skipped n x (len + c.size))) (ap (λ (m : ℕ). drop m text) e
+          ∙ sym (drop-drop c.size (p + len) text))
 
   pub skip_same : (n p : ℕ) → p ≤ length text → Position.skip text n p ≡ Pest.skip text n p
   skip_same n p h = subst (λ (m : ℕ). Position.skip text n m ≡ Pest.advance p (Pest.skipped n (drop m text) 0)) (add-zero p)
@@ -112,12 +112,12 @@ module _ (text : List ℕ) where
   entries_same [] p = refl
   entries_same (v ∷ vs) p =
       subst (λ (y : Option ℕ). ◌≡◌ {A = Option ℕ} (Reading.after_entries text (v ∷ vs) p) (elim y
-          [ None ↦ None | Some q ↦ Pest.all_match text vs q ]))
+      [ None ↦ None | Some q ↦ Pest.all_match text vs q ]))
       (string_same (Pest.as_str text v) p) (go (Reading.after_entry text v p) (entries_same vs))
     where
       go : (x : Option ℕ) → ((q : ℕ) → Reading.after_entries text vs q ≡ Pest.all_match text vs q)
           → ◌≡◌ {A = Option ℕ} (elim x [ None ↦ None | Some q ↦ Reading.after_entries text vs q ]) (elim x
-              [ None ↦ None | Some q ↦ Pest.all_match text vs q ])
+          [ None ↦ None | Some q ↦ Pest.all_match text vs q ])
       go None ih = refl
       go (Some q) ih = ih q
 

@@ -14,6 +14,7 @@ use lib.IntN.{ℤ}
 use Rattle.reading.specs.declared.node.Node.{Node}
 use Rattle.reading.specs.Grammar.{natural, node_at, line_count}
 use Rattle.reading.specs.Nullable.{still_rows, stands_still, Closed, Least, flag, raised, swept, rounds, nullable}
+use Rattle.reading.proofs.Rows.{◌▹◌}
 
 -- ── Monotone ──
 infix 10 ◌⊆◌
@@ -52,8 +53,8 @@ still_mono s t h n =
     let a : ℕ = natural n.a in
     let b : ℕ = natural n.b in
     each_at (still_rows (eqb a 0) (eqb b 0) (s a) (s b)) (still_rows (eqb a 0) (eqb b 0) (t a) (t b))
-    (same, (same, (same, (same, (same, (and_mono (s a) (s b) (h a) (h b),
-        (or_mono (s a) (s b) (h a) (h b), (h b, (h a, (same, (same, (same, (h a, (h a, (same, (same, (same, (h a, (same, (h a, tt))))))))))))))))))))
+    (same ▹ same ▹ same ▹ same ▹ same ▹ and_mono (s a) (s b) (h a) (h b) ▹ or_mono (s a) (s b) (h a) (h b) ▹ h b ▹ h a
+    ▹ same ▹ same ▹ same ▹ h a ▹ h a ▹ same ▹ same ▹ same ▹ h a ▹ same ▹ h a ▹ tt)
     (natural n.kind - 1)
 
 -- ── Rounds, step by step ──
@@ -304,7 +305,7 @@ nullable_is ns l lo hi = go (nullable ns l) (stands_still (nullable ns) (node_at
     both_closed : Closed ns both
     both_closed k lo hi e =
         let s : stands_still (nullable ns) (node_at ns k) ≡ true =
-                still_mono both (nullable ns) (λ j. right (stands_still (nullable ns) (node_at ns j)) (nullable ns j)) (node_at ns k) e in
+        still_mono both (nullable ns) (λ j. right (stands_still (nullable ns) (node_at ns j)) (nullable ns j)) (node_at ns k) e in
         join (stands_still (nullable ns) (node_at ns k)) (nullable ns k) s (nullable_closed ns k lo hi s)
 
     under : nullable ns l ≡ true → stands_still (nullable ns) (node_at ns l) ≡ true

@@ -116,7 +116,7 @@ pub truncate_queue : (pre : List QueueableToken) (n : ℕ) {f g : Forest} → Gr
     → take (length (pre ++ queue_from n f)) (pre ++ queue_from n g) ≡ pre ++ queue_from n (cut (count f) g)
 truncate_queue pre n {f} {g} a =
     let i : length (pre ++ queue_from n f) ≡ length pre + size (cut (count f) g) =
-            omega (arith, length-append pre (queue_from n f), length_queue n f, size_grown a) in
+    omega (arith, length-append pre (queue_from n f), length_queue n f, size_grown a) in
     rw (i, take-append-add pre (queue_from n g) (size (cut (count f) g)), take_queue n (count f) g)
 
 -- ── tag_node ──
@@ -156,13 +156,17 @@ tag_queue u o n (add f r t s e c) = tag_last_of u (prefix o) (queue_from n f) (S
 
 -- ── rule ──
 pub length_prefix : (o : Open) (n : ℕ) (f : Forest) (p : ℕ) → n ≡ length (prefix o) → suc (n + size f) ≡ length (prefix (inside o n f p))
-length_prefix o n f p h = omega (arith, length-append (prefix o ++ queue_from n f) (Start 0 p ∷ []),
-    length-append (prefix o) (queue_from n f), length_queue n f)
+length_prefix o n f p h = omega (
+  arith,
+  length-append (prefix o ++ queue_from n f) (Start 0 p ∷ []),
+  length-append (prefix o) (queue_from n f),
+  length_queue n f,
+)
 
 -- `queue[index]` with-ended and End pushed: one pair more
 close_list : (Q C : List QueueableToken) (N p r e : ℕ)
     → set ((Q ++ (Start 0 p ∷ [])) ++ C) (length Q) (with_end N (get_or ((Q ++ (Start 0 p ∷ [])) ++ C) (length Q) (Start 0 0)))
-        ++ (End (length Q) r 0 e ∷ [])
+    ++ (End (length Q) r 0 e ∷ [])
     ≡ Q ++ (Start N p ∷ (C ++ (End (length Q) r 0 e ∷ [])))
 close_list Q C N p r e =
     rw (append_assoc Q (Start 0 p ∷ []) C, get_or_at Q (Start 0 p) C (Start 0 0) (length Q) refl, set_at Q (Start 0 p) C (Start N p) (length Q) refl)
@@ -176,7 +180,7 @@ pub close_queue : (o : Open) (n : ℕ) (f : Forest) (p r e : ℕ) (c : Forest) �
     ≡ prefix o ++ queue_from n (add f r 0 p e c)
 close_queue o n f p r e c h =
     close_list (prefix o ++ queue_from n f) (queue_from (suc (n + size f)) c)
-        (length (prefix (inside o n f p) ++ queue_from (suc (n + size f)) c)) p r e
+    (length (prefix (inside o n f p) ++ queue_from (suc (n + size f)) c)) p r e
     ∙ ap₂ (λ (i j : ℕ). (prefix o ++ queue_from n f) ++ (Start j p ∷ (queue_from (suc (n + size f)) c ++ (End i r 0 e ∷ [])))) l w
     ∙ append_assoc (prefix o) (queue_from n f) _
   where
@@ -184,8 +188,12 @@ close_queue o n f p r e c h =
     l = omega (arith, length-append (prefix o) (queue_from n f), length_queue n f)
 
     w : length (prefix (inside o n f p) ++ queue_from (suc (n + size f)) c) ≡ n + size f + suc (size c)
-    w = omega (arith, length-append (prefix (inside o n f p)) (queue_from (suc (n + size f)) c), length_prefix o n f p h,
-        length_queue (suc (n + size f)) c)
+    w = omega (
+      arith,
+      length-append (prefix (inside o n f p)) (queue_from (suc (n + size f)) c),
+      length_prefix o n f p h,
+      length_queue (suc (n + size f)) c,
+    )
 
 -- the queue cut back to before a rule's Start
 pub drop_rule : (o : Open) (n : ℕ) (f : Forest) (p : ℕ) (c : List QueueableToken)

@@ -80,12 +80,12 @@ module _ (rules : ℕ → Peg) where
         where
           by : Compared same l' x c.size d.size c.value d.value
               → Ford rules (Ford.◌then◌ (Ford.class (same c.value)) (each same es)) (d.value ∷ characters_of (drop d.size x))
-                  (After (starts_by same l' x) (length l') x)
+              (After (starts_by same l' x) (length l') x)
           by (unlike n m) = rw m (Ford.f_sequence_fail _ _ _ (Ford.f_terminal_fail (same c.value) d.value _ n))
           by (alike k n m) =
               let n₁ : d.size + length (drop c.size l') ≡ length l' = omega (arith, length-drop c.size l', char_size l' c e) in
               let z : drop (length (drop c.size l')) (drop d.size x) ≡ drop (length l') x = drop-drop (length (drop c.size l')) d.size x
-                      ∙ ap (λ (i : ℕ). drop i x) n₁ in
+              ∙ ap (λ (i : ℕ). drop i x) n₁ in
               rw (m, ← z) (Ford.f_sequence _ _ _ _ _ (Ford.f_terminal (same c.value) d.value _ n) (ih (drop d.size x) w))
 
 -- ── Terminals, at an edge of a text ──
@@ -254,7 +254,7 @@ module _ (g : Setting) where
       go : (a : Bool) → is_set t.limit_reached ≡ a → (b s : Bool) → Entry t.limit_reached
           (if a then own else if b then Pest.reached LimitKind.Call t
           else (if a then own else if b then Pest.reached LimitKind.Call t else if s then Pest.reached LimitKind.Stack t
-              else record { answer = true; tracker = n }))
+          else record { answer = true; tracker = n }))
       go true e b s = refuses t e
       go false e true s = refuses _ refl
       go false e false true = refuses _ refl
@@ -405,7 +405,7 @@ module _ (g : Setting) where
       either (is_atomic m.atomicity) (itself m)
       (either (ltb prev (Pest.attempts_at p m) && eqb (Pest.attempts_at p m - prev) 1) (itself m)
       (then_same (truncates m) (then_same (advances (Pest.truncate_attempts p pi ni m))
-          (pushes (Pest.advance_attempts p (Pest.truncate_attempts p pi ni m))))))
+      (pushes (Pest.advance_attempts p (Pest.truncate_attempts p pi ni m))))))
     where
       truncates : (m : ParserState) → Same m (Pest.truncate_attempts p pi ni m)
       truncates m = either (eqb p m.attempt_pos) (noted m.attempt_pos (take pi m.pos_attempts) (take ni m.neg_attempts) m) (itself m)
@@ -417,7 +417,7 @@ module _ (g : Setting) where
       pushes m =
           either (eqb p m.attempt_pos)
           (either (not (is_negative m.lookahead)) (noted m.attempt_pos (m.pos_attempts ++ (r ∷ [])) m.neg_attempts m)
-              (noted m.attempt_pos m.pos_attempts (m.neg_attempts ++ (r ∷ [])) m))
+          (noted m.attempt_pos m.pos_attempts (m.neg_attempts ++ (r ∷ [])) m))
           (itself m)
 
   tracking_means : (due : Bool) (line r p pi ni prev : ℕ) {e : Peg} {w : Bool} {q : ℕ} {c : Option LimitKind} (k : ParserState
@@ -482,11 +482,11 @@ module _ (g : Setting) where
       ends prev x (means_ok n k) = tracking_means (is_negative n.lookahead) line r m.position pi ni prev (λ t.
           Pest.close_rule g true line r index t) n
           (λ t s. close t (λ c. let j : (cause m ≡ None)
-              × Ford (rules_of g) e (from m.position) (Some (from n.position)) = k (sym s.limit ∙ c) in (j.0, rw s.place j.1)))
+          × Ford (rules_of g) e (from m.position) (Some (from n.position)) = k (sym s.limit ∙ c) in (j.0, rw s.place j.1)))
       ends prev x (means_err n k) = tracking_means (not (is_negative n.lookahead)) line r m.position pi ni prev (λ t.
           Err (if Pest.produces t then Pest.set_queue (take index t.queue) t else t)) n
           (λ t s. cut t (λ c. let j : (cause m ≡ None) × Ford (rules_of g) e (from m.position) None
-              × (true ≡ true → n.position ≡ m.position) = k (sym s.limit ∙ c) in (j.0, j.1, λ z. s.place ∙ j.2 z)) (Pest.produces t))
+          × (true ≡ true → n.position ≡ m.position) = k (sym s.limit ∙ c) in (j.0, j.1, λ z. s.place ∙ j.2 z)) (Pest.produces t))
       ends prev x (means_stop c) = means_stop c
 
       s : ParserState
@@ -524,7 +524,7 @@ module _ (g : Setting) (set : ℕ → Bool) (w : Tested g set) (lines : ℕ → 
 
   module _ (room : Bool) (d : Exp → ParserState → Ending ParserState)
       (h : (e : Exp) → Plain e → Calls lines e → Literals e → Steady set e → RecognisesTree e (d e)) (k : (e : Exp) → Literals e
-          → Steady set e → Keeping g (still set e) (d e)) where
+      → Steady set e → Keeping g (still set e) (d e)) where
     -- A tree that is not of kind 6.
     of_whole : (e : Exp) (f : ParserState → Ending ParserState) → whole e ≡ true → RecognisesTree e f → Recognises g (peg e) true f
     of_whole e f q z = subst (λ (b : Bool). Recognises g (peg e) b f) q z
@@ -550,11 +550,11 @@ module _ (g : Setting) (set : ℕ → Bool) (w : Tested g set) (lines : ℕ → 
     level_means Grammar.end_of_input p c u y = end_means g
     level_means (Grammar.and_then a b) p c u y =
         and_means g (peg a) (peg b) (whole a) (whole b) (still set a) (level g true room d a) (level g true room d b)
-            (level_means a p.0 c.0 u.0 y.0) (level_means b p.1 c.1 u.1 y.1) (level_keeps g set w room d k a u.0 y.0)
+        (level_means a p.0 c.0 u.0 y.0) (level_means b p.1 c.1 u.1 y.1) (level_keeps g set w room d k a u.0 y.0)
     level_means (Grammar.or_else a b) p c u y =
         or_means g (peg a) (peg b) (still set a) (level g true room d a) (level g true room d b)
         (of_whole a (level g true room d a) p.2 (level_means a p.0 c.0 u.0 y.0))
-            (of_whole b (level g true room d b) p.3 (level_means b p.1 c.1 u.1 y.1))
+        (of_whole b (level g true room d b) p.3 (level_means b p.1 c.1 u.1 y.1))
         (level_keeps g set w room d k a u.0 y.0)
     level_means (Grammar.rule line r e) p c u y =
         counted (peg e) (λ m. Pest.rule g true line r (d e) m) (rule_means g line r (peg e) (d e) (body e p.0 c p.1 u y))
@@ -577,8 +577,8 @@ module _ (g : Setting) (set : ℕ → Bool) (w : Tested g set) (lines : ℕ → 
     level_means (Grammar.call l) p c u y = λ m x.
         let r : RuleLine = g.rule_at l in
         nonterminal_means g l _ (counted (peg r.body) (λ n. Pest.rule g true r.line r.rule (d r.body) n)
-            (rule_means g r.line r.rule (peg r.body) (d r.body)
-            (body r.body (v.plain l c) (v.calls l c) (v.whole_body l c) (w.literals l) (w.steady l))) m x)
+        (rule_means g r.line r.rule (peg r.body) (d r.body)
+        (body r.body (v.plain l c) (v.calls l c) (v.whole_body l c) (w.literals l) (w.steady l))) m x)
 
   refused_means : (e : Exp) → Plain e → Calls lines e → Literals e → Steady set e → RecognisesTree e (Pest.no_deeper g true e)
   refused_means e p c u y m x = means_err _ (λ q. cause_set (Some LimitKind.Stack) refl q)
@@ -618,9 +618,10 @@ numbered g (Err s) = go s.tracker.cause refl
     limit_end LimitKind.Stack = other_end 12 (omega arith)
 
     go : (c : Option LimitKind) → s.tracker.cause ≡ c
-        → Numbered g (Err s) (elim c as (λ x. Answer)
-            [ Some k ↦ of_limit k s.attempts.furthest
-            | None ↦ of_failure s.attempts.furthest (ascending s.attempts.positive) (ascending s.attempts.negative) ]).number
+        → Numbered g (Err s) (elim c as (λ x. Answer) [
+          | Some k ↦ of_limit k s.attempts.furthest
+          | None ↦ of_failure s.attempts.furthest (ascending s.attempts.positive) (ascending s.attempts.negative)
+        ]).number
     go None e = failed_end (failed s e)
     go (Some k) e = limit_end k
 numbered g (Stop (Cause.EmptyStack l)) = other_end 13 (omega arith)

@@ -137,8 +137,11 @@ module _ (g : Setting) where
       → (b ≡ false → 1 ≤ least) → Alike g b m.position (Pest.moved x m) (Pest.moved x m)
   moved_alike b least m y x lands_not f h = alike_err m (stay y)
   moved_alike b least m y x (lands q k e) (found q' f) h =
-      alike_ok (Pest.set_position q m) (record { free = record { edge = e; whole = y.whole }; forward = k; moved = λ (i : b ≡ false).
-          omega (arith, f.far, h i) })
+      alike_ok (Pest.set_position q m) (record {
+        free = record { edge = e; whole = y.whole };
+        forward = k;
+        moved = λ (i : b ≡ false). omega (arith, f.far, h i);
+      })
 
   landed_alike : (m : ParserState) → Free g m → (x : Option ℕ) → Lands g.text m.position x → Alike g true m.position (Pest.moved x m) (Pest.moved x m)
   landed_alike m y x lands_not = alike_err m (stay y)
@@ -186,8 +189,11 @@ module _ (g : Setting) where
 
   cleared_on : {b : Bool} {p : ℕ} (n : ParserState) → On g b p n.position n.stack → On g b p n.position (Pest.clear_snapshot n.stack)
   cleared_on n y = record {
-    free = record { edge = y.free.edge; whole = whole_clear g.text n.stack.cache n.stack.popped n.stack.lengths y.free.whole.cache
-        y.free.whole.popped };
+    free = record {
+      edge = y.free.edge;
+      whole = whole_clear g.text n.stack.cache n.stack.popped n.stack.lengths y.free.whole.cache
+          y.free.whole.popped;
+    };
     forward = y.forward;
     moved = y.moved;
   }
@@ -205,7 +211,7 @@ module _ (g : Setting) where
       go r s (alike_ok n y) = alike_ok (Pest.checkpoint_ok n) (cleared_on n y)
       go r s (alike_err n y) =
           alike_err (Pest.restored (Pest.set_queue (take (length m.queue) n.queue) (Pest.set_position m.position n)))
-              (stay (restored_free n y.free m.position x.edge))
+          (stay (restored_free n y.free m.position x.edge))
       go r s (alike_stop c) = alike_stop c
 
   restore_alike : (b : Bool) (f h : ParserState → Ending ParserState) → AlikeFrom g b f h
@@ -214,8 +220,11 @@ module _ (g : Setting) where
     where
       go : (r s : Ending ParserState) → Alike g b m.position r s → Alike g b m.position (Pest.restore_on_err_end r) (Pest.restore_on_err_end s)
       go r s (alike_ok n y) = alike_ok (Pest.checkpoint_ok n) (cleared_on n y)
-      go r s (alike_err n y) = alike_err (Pest.restored n) (record { free = restored_free n y.free n.position y.free.edge;
-          forward = y.forward; moved = not-true })
+      go r s (alike_err n y) = alike_err (Pest.restored n) (record {
+        free = restored_free n y.free n.position y.free.edge;
+        forward = y.forward;
+        moved = not-true;
+      })
       go r s (alike_stop c) = alike_stop c
 
   -- ── Kinds 10 and 11 ──
@@ -236,7 +245,7 @@ module _ (g : Setting) where
   -- As many rounds as there are bytes left, and one: then neither `spent` is come to.
   pub loop_alike : (spent spent' : ParserState → Ending ParserState) (f h : ParserState → Ending ParserState) → AlikeFrom g false f h
       → (n : ℕ) (m : ParserState) → Free g m → length g.text - m.position < n
-          → Alike g true m.position (Pest.loop spent n f m) (Pest.loop spent' n h m)
+      → Alike g true m.position (Pest.loop spent n f m) (Pest.loop spent' n h m)
   loop_alike spent spent' f h k zero m x l = absurd (omega arith)
   loop_alike spent spent' f h k (suc n) m x l = go (f m) (h m) (k m x) (loop_alike spent spent' f h k n)
     where
@@ -301,8 +310,16 @@ module _ (g : Setting) where
       go : (r s : Ending ParserState) → Alike g b m.position r s
           → Alike g b m.position (Pest.push_end g.text false line m.position r) (Pest.push_end g.text false line m.position s)
       go r s (alike_ok n y) = alike_ok (Pest.set_stack (Pest.push (record { start = m.position; end = n.position }) n.stack) n) (record {
-        free = record { edge = y.free.edge; whole = record { cache = (span_whole g.text m.position n.position y.forward x.edge y.free.edge,
-            y.free.whole.cache); popped = y.free.whole.popped } };
+        free = record {
+          edge = y.free.edge;
+          whole = record {
+            cache = (
+              span_whole g.text m.position n.position y.forward x.edge y.free.edge,
+              y.free.whole.cache,
+            );
+            popped = y.free.whole.popped;
+          };
+        };
         forward = y.forward;
         moved = y.moved;
       })
@@ -331,7 +348,7 @@ module _ (g : Setting) where
       (record { free = record { edge = d; whole = x.whole }; forward = i; moved = not-true })
   match_pop_alike line (v ∷ rest) m e x q i d =
       go _ (entry_lands g v (subst (Entries g.text) e x.whole.cache).0 q d)
-          (match_pop_alike line rest n (cache_of_pop g v rest m.stack) (popped_free v rest m e x))
+      (match_pop_alike line rest n (cache_of_pop g v rest m.stack) (popped_free v rest m e x))
     where
       n : ParserState
       n = Pest.set_stack (Pest.pop v rest m.stack) m
@@ -340,7 +357,7 @@ module _ (g : Setting) where
           → ((r : ℕ) → n.position ≤ r → Edge g.text r
           → Alike g true n.position (Pest.stack_match_pop g.text false line rest r n) (Pest.stack_match_pop g.text false line rest r n))
           → Alike g true m.position (elim y [ None ↦ Err n | Some r ↦ Pest.stack_match_pop g.text false line rest r n ]) (elim y
-              [ None ↦ Err n | Some r ↦ Pest.stack_match_pop g.text false line rest r n ])
+          [ None ↦ Err n | Some r ↦ Pest.stack_match_pop g.text false line rest r n ])
       go y lands_not ih = alike_err n (stay (popped_free v rest m e x))
       go y (lands r k z) ih = ih r (omega arith) z
 
@@ -411,13 +428,13 @@ module _ (g : Setting) where
 
       cut : (t : ParserState) → On g true m.position t.position t.stack → (c : Bool)
           → Alike g b m.position (Err (if c then Pest.set_queue (take index t.queue) t else t))
-              (Err (if c then Pest.set_queue (take index t.queue) t else t))
+          (Err (if c then Pest.set_queue (take index t.queue) t else t))
       cut t y true = alike_err (Pest.set_queue (take index t.queue) t) y
       cut t y false = alike_err t y
 
       ends : (prev : ℕ) (u v : Ending ParserState) → Alike g b m.position u v
           → Alike g b m.position (Pest.rule_end g false line r m.position index pi ni prev u)
-              (Pest.rule_end g false line r m.position index pi ni prev v)
+          (Pest.rule_end g false line r m.position index pi ni prev v)
       ends prev u v (alike_ok n y) = tracking_alike b (is_negative n.lookahead) line r m.position pi ni prev (λ t.
           Pest.close_rule g false line r index t) n y (λ t z. close_alike line r index t z)
       ends prev u v (alike_err n y) = tracking_alike true (not (is_negative n.lookahead)) line r m.position pi ni prev (λ t.
@@ -453,13 +470,13 @@ module _ (g : Setting) (set : ℕ → Bool) (w : Tested g set) (spent spent' : P
         → AlikeFrom g (still set e) (Pest.level_with g false room d spent e) (Pest.level_with g false room d' spent' e)
     level_alike (Grammar.match_string l) u y = λ m x. rw (← string_same g.text l m.position)
         (moved_alike g (eqb (length l) 0) (length l) m x _ (string_lands g.text eqb eqb_keeps l u m.position x.edge)
-            (string_forward g.text eqb l m.position) (zero_or_more (length l)))
+        (string_forward g.text eqb l m.position) (zero_or_more (length l)))
     level_alike (Grammar.match_insensitive l) u y = λ m x. rw (← folded_same g.text l u m.position x.edge.inside x.edge.whole)
         (moved_alike g (eqb (length l) 0) (length l) m x _ (string_lands g.text same_folded folded_keeps l u m.position x.edge)
-            (string_forward g.text same_folded l m.position) (zero_or_more (length l)))
+        (string_forward g.text same_folded l m.position) (zero_or_more (length l)))
     level_alike (Grammar.match_range a b) u y = λ m x. rw (← range_same g.text a b m.position)
         (moved_alike g false 1 m x _ (char_lands g.text (within a b) m.position x.edge) (char_forward g.text (within a b) m.position) (λ e.
-            omega arith))
+        omega arith))
     level_alike (Grammar.skip n) u y = λ m x. rw (← skip_same g.text n m.position x.edge.inside)
         (moved_alike g (eqb n 0) n m x _ (skip_lands g.text n m.position x.edge) (skip_forward g.text n m.position) (zero_or_more n))
     level_alike Grammar.end_of_input u y = end_alike g
@@ -482,7 +499,7 @@ module _ (g : Setting) (set : ℕ → Bool) (w : Tested g set) (spent spent' : P
     level_alike (Grammar.call l) u y =
         let r : RuleLine = g.rule_at l in
         counted (set l) _ _ (rule_alike g r.line r.rule (set l) (d r.body) (d' r.body)
-            (stiller (still set r.body) (set l) (d r.body) (d' r.body) (w.closed l) (k r.body (w.literals l) (w.steady l))))
+        (stiller (still set r.body) (set l) (d r.body) (d' r.body) (w.closed l) (k r.body (w.literals l) (w.steady l))))
 
   refused_alike : (e : Exp) → Literals e → Steady set e → AlikeFrom g (still set e) (Pest.no_deeper g false e) (Pest.no_deeper g false e)
   refused_alike e u y m x = alike_err _ (stay g x)

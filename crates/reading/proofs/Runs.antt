@@ -98,7 +98,7 @@ module _ (i : Input) (e : refusal i ≡ None) where
   run_bounded =
       go _ _ (run_sim (setting i) (rule_still i.nodes) (tested i g) s.text_whole i.depth_limit i.call_limit at_root root_literals root_steady)
       (eval_keeps (setting i) (rule_still i.nodes) (tested i g) i.depth_limit at_root root_literals root_steady (Pest.new i.call_limit)
-          (initial_fit (setting i) i.call_limit s.text_whole))
+      (initial_fit (setting i) i.call_limit s.text_whole))
     where
       go : (r : Ending State) (m : Ending ParserState) {b : Bool} {q : ℕ} {l l' : Lookahead} {a a' : Atomicity} {f : Forest} {marks n : ℕ}
           → Sim top [] l' a' f r m → Keeps (setting i) b q l a marks n m → Within i r
@@ -147,4 +147,4 @@ module _ (i : Input) (e : refusal i ≡ None) where
         → Ford (rules_of (setting i)) (peg at_root) (characters_of i.text) (Some (characters_of (drop t.position i.text)))
     left_over q t r = ford (Some (characters_of (drop t.position i.text)))
         (subst (λ (x : Ending State). Recognised (setting i) x (Some (characters_of (drop t.position i.text)))) (sym r)
-            (matched t (no_cause t (ap (λ (x : Ending State). (answer x).number) (sym r) ∙ q))))
+        (matched t (no_cause t (ap (λ (x : Ending State). (answer x).number) (sym r) ∙ q))))

@@ -157,7 +157,7 @@ data EnterSim : Reading.Entry → Entered → Type 0 where
 
 enter_sim : (limit n : ℕ) (c : Option LimitKind) (room counts : Bool)
     → EnterSim (Reading.enter room counts (record { limit = limit; counted = n; cause = c }))
-        (Pest.enter room counts (tracker_of (record { limit = limit; counted = n; cause = c })))
+    (Pest.enter room counts (tracker_of (record { limit = limit; counted = n; cause = c })))
 enter_sim limit n (Some x) room counts = out_both (record { limit = limit; counted = n; cause = Some x })
 enter_sim zero n None true true = in_both (record { limit = 0; counted = suc n; cause = None })
 enter_sim zero n None false true = out_both (record { limit = 0; counted = n; cause = Some LimitKind.Stack })
@@ -183,8 +183,10 @@ module _ (g : Setting) where
       go : (e : Reading.Entry) (x : Entered) → EnterSim e x
           → SimFrom o ss s
           (elim e [ Reading.refused t ↦ Err (Reading.with_tracker t s) | Reading.entered t ↦ k (Reading.with_tracker t s) ])
-          (elim x.answer [ false ↦ Err (Pest.set_call_tracker x.tracker (pest_of o p s))
-              | true ↦ mk (Pest.set_call_tracker x.tracker (pest_of o p s)) ])
+          (elim x.answer [
+            | false ↦ Err (Pest.set_call_tracker x.tracker (pest_of o p s))
+            | true ↦ mk (Pest.set_call_tracker x.tracker (pest_of o p s))
+          ])
       go e x (in_both t) = h o ss p (Reading.with_tracker t s) (record { base = i.base; inv = i.inv }) v
       go e x (out_both t) = sim_err (Reading.with_tracker t s) p (record { base = i.base; inv = i.inv }) (kept_self g (Reading.with_tracker t s))
 
@@ -212,12 +214,12 @@ module _ (g : Setting) where
           let c : Restored t.stack s.stack ss q t.checkpoints = inv_restore j.inv in
           let n : s.outer ≡ t.outer = i.base ∙ sym j.base in
           let e : take (length (prefix o ++ queue_from s.outer s.siblings)) (prefix o ++ queue_from t.outer t.siblings)
-                  ≡ prefix o ++ queue_from t.outer (cut (count s.siblings) t.siblings) = rw n (truncate_queue (prefix o) t.outer k.grown) in
+          ≡ prefix o ++ queue_from t.outer (cut (count s.siblings) t.siblings) = rw n (truncate_queue (prefix o) t.outer k.grown) in
           err_by g
           (Reading.restore_stack s.stack (Reading.at_position s.position
-              (Reading.with_siblings (cut (count s.siblings) t.siblings) t.outer t))) c.left _
+          (Reading.with_siblings (cut (count s.siblings) t.siblings) t.outer t))) c.left _
           (ap₂ (λ (v : Pest.Stack) (l : List QueueableToken). Pest.set_stack v
-              (Pest.set_queue l (Pest.set_position s.position (pest_of o q t)))) c.same e)
+          (Pest.set_queue l (Pest.set_position s.position (pest_of o q t)))) c.same e)
           (record { base = j.base; inv = c.inv })
           (record { look = k.look; atom = k.atom; grown = grows_cut k.grown })
       go x y (sim_stop c) = sim_stop c
@@ -277,11 +279,11 @@ module _ (g : Setting) where
 
   lookahead_sim : (b : Bool) (r : State → Ending State) (m : ParserState → Ending ParserState) → Preserves g r m
       → Preserves g (λ s. Reading.lookahead_end b s (r (Reading.open_checkpoint
-          (Reading.with_lookahead (Reading.lookahead_in b s.lookahead) s)))) (λ x. Pest.lookahead b m x)
+      (Reading.with_lookahead (Reading.lookahead_in b s.lookahead) s)))) (λ x. Pest.lookahead b m x)
   lookahead_sim b r m h o ss p s i v =
       rw (← lookahead_same b s.lookahead)
       (go _ _ (h o (s.stack ∷ ss) p (Reading.open_checkpoint (Reading.with_lookahead (Reading.lookahead_in b s.lookahead) s))
-          (record { base = i.base; inv = inv_snapshot i.inv })
+      (record { base = i.base; inv = inv_snapshot i.inv })
       (checkpoint_fit g (pest_of o p (Reading.with_lookahead (Reading.lookahead_in b s.lookahead) s)) v)))
     where
       -- Limited or not, positive or not, Ok or Err: the same state on either side.
@@ -307,11 +309,11 @@ module _ (g : Setting) where
       go x y (sim_ok t q j k) =
           let c : Restored t.stack s.stack ss q t.checkpoints = inv_restore j.inv in
           out (Reading.back_to s t) c.left _ (back t q j c) (record { base = j.base; inv = c.inv })
-              (record { look = refl; atom = k.atom; grown = k.grown }) (Reading.limited t) b
+          (record { look = refl; atom = k.atom; grown = k.grown }) (Reading.limited t) b
       go x y (sim_err t q j k) =
           let c : Restored t.stack s.stack ss q t.checkpoints = inv_restore j.inv in
           swapped (Reading.back_to s t) c.left _ (back t q j c) (record { base = j.base; inv = c.inv })
-              (record { look = refl; atom = k.atom; grown = k.grown }) (Reading.limited t) b
+          (record { look = refl; atom = k.atom; grown = k.grown }) (Reading.limited t) b
       go x y (sim_stop c) = sim_stop c
 
   -- ── Kind 13 ──
@@ -337,7 +339,7 @@ module _ (g : Setting) where
           → SimFrom o ss s (Reading.push_end line s x) (Pest.push_end g.text true line s.position y)
       go x y (sim_ok t q j k) = both_stop g (Cause.StackFull line) _ _ (leb most_entries (length t.stack))
           (sim_ok (Reading.with_stack (record { start = s.position; end = t.position } ∷ t.stack) t.checkpoints t) q
-              (record { base = j.base; inv = inv_push _ j.inv }) (record { look = k.look; atom = k.atom; grown = k.grown }))
+          (record { base = j.base; inv = inv_push _ j.inv }) (record { look = k.look; atom = k.atom; grown = k.grown }))
       go x y (sim_err t q j k) = sim_err t q j k
       go x y (sim_stop c) = sim_stop c
 
@@ -347,14 +349,14 @@ module _ (g : Setting) where
       (o : Open) (ss : List Stk) (p : Stk) (s : State) → Good o ss p s → s.stack ≡ x ∷ rest
       → ((q : Stk) → Good o ss q (Reading.with_stack rest (Reading.lower_to (length rest) s.checkpoints) s)
       → SimFrom o ss s (k (Reading.with_stack rest (Reading.lower_to (length rest) s.checkpoints) s))
-          (mk (pest_of o q (Reading.with_stack rest (Reading.lower_to (length rest) s.checkpoints) s))))
+      (mk (pest_of o q (Reading.with_stack rest (Reading.lower_to (length rest) s.checkpoints) s))))
       → SimFrom o ss s (Reading.popping g.text line rest s k) (Pest.popping g.text true line x rest (pest_of o p s) mk)
   popping_sim line x rest k mk o ss p s i e h =
       let c : Popped x rest ss p s.checkpoints = inv_pop x rest (rw e at i.inv) in
       subst (λ (v : Pest.Stack). SimFrom o ss s (Reading.popping g.text line rest s k)
-          (stop_if (ltb most_debt (debt v.lengths)) (Cause.StackFull line) (λ _. mk (Pest.set_stack v (pest_of o p s))))) (sym c.same)
+      (stop_if (ltb most_debt (debt v.lengths)) (Cause.StackFull line) (λ _. mk (Pest.set_stack v (pest_of o p s))))) (sym c.same)
       (both_stop g (Cause.StackFull line) _ _ (ltb most_debt (debt (Reading.lower_to (length rest) s.checkpoints)))
-          (h c.left (record { base = i.base; inv = c.inv })))
+      (h c.left (record { base = i.base; inv = c.inv })))
 
   pop_sim : (line : ℕ) → Preserves g (λ s. Reading.popped g.text line s.stack s) (λ m. Pest.stack_pop g.text true line m.stack.cache m)
   pop_sim line o ss p s i v = go s.stack refl
@@ -377,7 +379,7 @@ module _ (g : Setting) where
       (λ m. elim (Pest.match_string g.text (Pest.as_str g.text x) at) [ None ↦ Err m | Some q ↦ Pest.stack_match_pop g.text true line rest q m ])
       o ss p s i e
       (λ q j. rw (← string_same g.text (Pest.as_str g.text x) at)
-          (go q (λ n. match_pop_sim line rest n o ss q u j refl) j (Reading.after_entry g.text x at)))
+      (go q (λ n. match_pop_sim line rest n o ss q u j refl) j (Reading.after_entry g.text x at)))
     where
       u : State
       u = Reading.with_stack rest (Reading.lower_to (length rest) s.checkpoints) s
@@ -405,14 +407,20 @@ module _ (g : Setting) where
           (moved_both g (Reading.after_entries g.text (Reading.entries a z d s.stack) s.position) o ss p s k)
 
       second : (a : ℕ) (y : Option ℕ) → SimFrom o ss s (elim y [ None ↦ Err s | Some z ↦ Reading.sliced g.text a z d s ])
-          (elim y [ None ↦ Err m | Some z ↦ elim (leb z a)
-              [ true ↦ Ok m | false ↦ Pest.moved (Pest.all_match g.text (Pest.slice a z d s.stack) s.position) m ] ])
+          (elim y [
+            | None ↦ Err m
+            | Some z ↦ elim (leb z a)
+                [ true ↦ Ok m | false ↦ Pest.moved (Pest.all_match g.text (Pest.slice a z d s.stack) s.position) m ]
+          ])
       second a None = sim_err s p k (kept_self g s)
       second a (Some z) = third a z (leb z a)
 
       model_end : ℕ → Option ℕ → Ending ParserState
-      model_end a y = elim y [ None ↦ Err m | Some z ↦ elim (leb z a)
-          [ true ↦ Ok m | false ↦ Pest.moved (Pest.all_match g.text (Pest.slice a z d s.stack) s.position) m ] ]
+      model_end a y = elim y [
+        | None ↦ Err m
+        | Some z ↦ elim (leb z a)
+            [ true ↦ Ok m | false ↦ Pest.moved (Pest.all_match g.text (Pest.slice a z d s.stack) s.position) m ]
+      ]
 
       model : Option ℕ → Ending ParserState
       model x = elim x [ None ↦ Err m | Some a ↦ model_end a (Pest.normalize_end j (length s.stack)) ]
@@ -454,12 +462,12 @@ module _ (g : Setting) where
 
   cleared_is : (o : Open) (q : Stk) (t : State) (p : ℕ) (n : Note)
       → Pest.advance_attempts p (Pest.truncate_attempts p n.positives n.negatives (pest_of o q t))
-          ≡ pest_of o q (Reading.with_attempts (Reading.cleared p n t.attempts) t)
+      ≡ pest_of o q (Reading.with_attempts (Reading.cleared p n t.attempts) t)
   cleared_is o q t p n = go (eqb p t.attempts.furthest) refl (ltb t.attempts.furthest p) refl
     where
       go : (b : Bool) → eqb p t.attempts.furthest ≡ b → (c : Bool) → ltb t.attempts.furthest p ≡ c
           → Pest.advance_attempts p (Pest.truncate_attempts p n.positives n.negatives (pest_of o q t))
-              ≡ pest_of o q (Reading.with_attempts (Reading.cleared p n t.attempts) t)
+          ≡ pest_of o q (Reading.with_attempts (Reading.cleared p n t.attempts) t)
       go true e c d = rw (e, le-ltb t.attempts.furthest p (omega (arith, eqb-true p t.attempts.furthest e)))
       go false e true d = rw (e, d)
       go false e false d = rw (e, d)
@@ -476,13 +484,13 @@ module _ (g : Setting) where
 
   track_is : (o : Open) (q : Stk) (t : State) (r p : ℕ) (n : Note) → is_atomic t.atomicity ≡ false
       → Pest.track r p n.positives n.negatives n.total (pest_of o q t)
-          ≡ pest_of o q (Reading.with_attempts (Reading.tracked (is_negative t.lookahead) p r n t.attempts) t)
+      ≡ pest_of o q (Reading.with_attempts (Reading.tracked (is_negative t.lookahead) p r n t.attempts) t)
   track_is o q t r p n h = rw (h, count_test n.total (Reading.count_at p t.attempts)) (go (eqb (Reading.count_at p t.attempts) (suc n.total)))
     where
       go : (b : Bool) → (if b then pest_of o q t
           else Pest.push_attempt r p (Pest.advance_attempts p (Pest.truncate_attempts p n.positives n.negatives (pest_of o q t))))
           ≡ pest_of o q (Reading.with_attempts (if b then t.attempts
-              else Reading.appended (is_negative t.lookahead) p r (Reading.cleared p n t.attempts)) t)
+          else Reading.appended (is_negative t.lookahead) p r (Reading.cleared p n t.attempts)) t)
       go true = refl
       go false = ap (Pest.push_attempt r p) (cleared_is o q t p n) ∙ appended_is o q (Reading.with_attempts (Reading.cleared p n t.attempts) t) p r
 
@@ -503,13 +511,13 @@ module _ (g : Setting) where
 
       go : (due x : Bool) → is_atomic t.atomicity ≡ x
           → Sim X ss l a f (elim (due && not x)
-              [ false ↦ k t | true ↦ stop_if (Reading.attempts_full b) (Cause.AttemptsFull line) (λ _. k (Reading.with_attempts b t)) ])
+          [ false ↦ k t | true ↦ stop_if (Reading.attempts_full b) (Cause.AttemptsFull line) (λ _. k (Reading.with_attempts b t)) ])
           (elim (due && not x) [ false ↦ mk (pest_of o q t) | true ↦ model (Pest.track r p n.positives n.negatives n.total (pest_of o q t)) ])
       go false x e = h t.attempts
       go true true e = h t.attempts
       go true false e =
           subst (λ (m : ParserState). Sim X ss l a f (stop_if (Reading.attempts_full b) (Cause.AttemptsFull line) (λ _.
-              k (Reading.with_attempts b t))) (model m)) (sym (track_is o q t r p n e))
+          k (Reading.with_attempts b t))) (model m)) (sym (track_is o q t r p n e))
           (both_stop g (Cause.AttemptsFull line) _ _ (Reading.attempts_full b) (h b))
 
   -- ── Kind 8 ──
@@ -550,7 +558,7 @@ module _ (g : Setting) where
 
       closed_queue : (u : State) (q : Stk) → Good o' ss q u
           → patched (pest_of o' q u) ++ (Pest.End index r 0 u.position ∷ [])
-              ≡ prefix o ++ queue_from s.outer (add s.siblings r 0 s.position u.position u.siblings)
+          ≡ prefix o ++ queue_from s.outer (add s.siblings r 0 s.position u.position u.siblings)
       closed_queue u q j =
           let e : u.outer ≡ suc (s.outer + size s.siblings) = j.base ∙ sym (length_prefix o s.outer s.siblings s.position i.base) in
           rw e (close_queue o s.outer s.siblings s.position r u.position u.siblings i.base)
@@ -560,11 +568,11 @@ module _ (g : Setting) where
       closed_sim e u q j k =
           subst (λ (y : Ending ParserState). SimFrom o ss s (Reading.closed g true line r s u) y) (sym close_is)
           (subst (λ (c : ℕ). SimFrom o ss s (stop_if (leb g.capacity c) (Cause.TokensFull line) (λ _. Ok w))
-              (stop_if (leb g.capacity (length (patched x))) (Cause.TokensFull line) (λ _.
-              Ok (pushed (patched x ++ (Pest.End index r 0 u.position ∷ [])))))) tokens
+          (stop_if (leb g.capacity (length (patched x))) (Cause.TokensFull line) (λ _.
+          Ok (pushed (patched x ++ (Pest.End index r 0 u.position ∷ [])))))) tokens
           (both_stop g (Cause.TokensFull line) (Ok w) _ (leb g.capacity (length (patched x)))
           (ok_by g w q _ (ap pushed (closed_queue u q j)) (record { base = i.base; inv = j.inv })
-              (record { look = k.look; atom = k.atom; grown = grows_add r 0 s.position u.position u.siblings (grows_refl s.siblings) }))))
+          (record { look = k.look; atom = k.atom; grown = grows_add r 0 s.position u.position u.siblings (grows_refl s.siblings) }))))
         where
           x : ParserState
           x = pest_of o' q u
@@ -580,9 +588,11 @@ module _ (g : Setting) where
 
           close_is : Pest.close_rule g true line r index x ≡ stop_if (leb g.capacity (length (patched x))) (Cause.TokensFull line) (λ _.
               Ok (pushed (patched x ++ (Pest.End index r 0 u.position ∷ []))))
-          close_is = ap (λ (b : Bool). elim b as (λ _. Ending ParserState)
-              [ false ↦ Ok x | true ↦ stop_if (leb g.capacity (length (patched x))) (Cause.TokensFull line) (λ _.
-              Ok (pushed (patched x ++ (Pest.End index r 0 u.position ∷ [])))) ]) (produces_as o' q u k ∙ e)
+          close_is = ap (λ (b : Bool). elim b as (λ _. Ending ParserState) [
+            | false ↦ Ok x
+            | true ↦ stop_if (leb g.capacity (length (patched x))) (Cause.TokensFull line) (λ _.
+                Ok (pushed (patched x ++ (Pest.End index r 0 u.position ∷ []))))
+          ]) (produces_as o' q u k ∙ e)
 
       -- Recorded, Err: nothing is left of it.
       dropped_rule : ParserState → Ending ParserState
@@ -592,7 +602,7 @@ module _ (g : Setting) where
           → SimFrom o ss s (Reading.discarded g true s u) (dropped_rule (pest_of o' q u))
       discarded_sim e u q j k = err_by g (Reading.with_siblings s.siblings s.outer u) q _
           (rw (produces_as o' q u k, e) (ap (λ (l : List QueueableToken). Pest.set_queue l (pest_of o' q u))
-              (drop_rule o s.outer s.siblings s.position (queue_from u.outer u.siblings))))
+          (drop_rule o s.outer s.siblings s.position (queue_from u.outer u.siblings))))
           (record { base = i.base; inv = j.inv })
           (record { look = k.look; atom = k.atom; grown = grows_refl s.siblings })
 
@@ -601,11 +611,11 @@ module _ (g : Setting) where
       end_recorded e x y (sim_ok t q j k) = tracking_sim (is_negative t.lookahead) line r s.position n o'
           (λ u. Reading.closed g true line r s u) (λ u. Pest.close_rule g true line r index u) t q
           (λ b. closed_sim e (Reading.with_attempts b t) q (record { base = j.base; inv = j.inv })
-              (record { look = k.look; atom = k.atom; grown = k.grown }))
+          (record { look = k.look; atom = k.atom; grown = k.grown }))
       end_recorded e x y (sim_err t q j k) = tracking_sim (not (is_negative t.lookahead)) line r s.position n o'
           (λ u. Reading.discarded g true s u) dropped_rule t q
           (λ b. discarded_sim e (Reading.with_attempts b t) q (record { base = j.base; inv = j.inv })
-              (record { look = k.look; atom = k.atom; grown = k.grown }))
+          (record { look = k.look; atom = k.atom; grown = k.grown }))
       end_recorded e x y (sim_stop c) = sim_stop c
 
       -- Not recorded: the queue is the body's.
@@ -614,20 +624,21 @@ module _ (g : Setting) where
       end_silent e x y (sim_ok t q j k) = tracking_sim (is_negative t.lookahead) line r s.position n o
           (λ u. Reading.closed g false line r s u) (λ u. Pest.close_rule g true line r index u) t q
           (λ b. subst (λ (y : Ending ParserState). SimFrom o ss s (Ok (Reading.with_attempts b t)) y) (sym (open_still b))
-              (sim_ok (Reading.with_attempts b t) q (record { base = j.base; inv = j.inv })
-              (record { look = k.look; atom = k.atom; grown = k.grown })))
+          (sim_ok (Reading.with_attempts b t) q (record { base = j.base; inv = j.inv })
+          (record { look = k.look; atom = k.atom; grown = k.grown })))
         where
           open_still : (b : Attempts) → Pest.close_rule g true line r index (pest_of o q (Reading.with_attempts b t))
               ≡ Ok (pest_of o q (Reading.with_attempts b t))
           open_still b =
               let x : ParserState = pest_of o q (Reading.with_attempts b t) in
-              ap (λ (c : Bool). elim c as (λ _. Ending ParserState)
-                  [ false ↦ Ok x | true ↦ Pest.push_token g true line (Pest.End index r 0 x.position) (Pest.set_queue (patched x) x) (λ y.
-                  Ok y) ]) (produces_as o q t k ∙ e)
+              ap (λ (c : Bool). elim c as (λ _. Ending ParserState) [
+                | false ↦ Ok x
+                | true ↦ Pest.push_token g true line (Pest.End index r 0 x.position) (Pest.set_queue (patched x) x) (λ y. Ok y)
+              ]) (produces_as o q t k ∙ e)
       end_silent e x y (sim_err t q j k) = tracking_sim (not (is_negative t.lookahead)) line r s.position n o
           (λ u. Reading.discarded g false s u) dropped_rule t q
           (λ b. err_by g (Reading.with_attempts b t) q _ (rw (produces_as o q t k, e)) (record { base = j.base; inv = j.inv })
-              (record { look = k.look; atom = k.atom; grown = k.grown }))
+          (record { look = k.look; atom = k.atom; grown = k.grown }))
       end_silent e x y (sim_stop c) = sim_stop c
 
       -- The Start: on both sides there is room for it, or not.
@@ -638,22 +649,24 @@ module _ (g : Setting) where
           → SimFrom o ss s (Reading.rule_end g true line r n s (d (Reading.opened g s))) (m_end (md started))
       body c e =
           subst (λ (q : List QueueableToken).
-              SimFrom o ss s (Reading.rule_end g true line r n s (d (Reading.opened g s))) (m_end (md (Pest.set_queue q m)))) queue_is
+          SimFrom o ss s (Reading.rule_end g true line r n s (d (Reading.opened g s))) (m_end (md (Pest.set_queue q m)))) queue_is
           (end_recorded e _ _ (h o' ss p (Reading.opened g s)
           (record { base = length_prefix o s.outer s.siblings s.position i.base; inv = i.inv })
           (subst (λ (q : List QueueableToken). Fit g (Pest.set_queue q m)) (sym queue_is)
-              (pushed_fit g m m.queue (Pest.Start 0 s.position) v refl c))))
+          (pushed_fit g m m.queue (Pest.Start 0 s.position) v refl c))))
 
       room : Reading.recorded s ≡ true → (b : Bool) → leb g.capacity index ≡ b
           → SimFrom o ss s (stop_if b (Cause.TokensFull line) (λ _. Reading.rule_end g true line r n s (d (Reading.opened g s))))
-              (stop_if b (Cause.TokensFull line) (λ _. m_end (md started)))
+          (stop_if b (Cause.TokensFull line) (λ _. m_end (md started)))
       room e true c = sim_stop _
       room e false c = body c e
 
       go : (b : Bool) → Reading.recorded s ≡ b
           → SimFrom o ss s
-          (elim b [ false ↦ Reading.rule_end g false line r n s (d s)
-              | true ↦ stop_if (Reading.no_token g s) (Cause.TokensFull line) (λ _. Reading.rule_end g true line r n s (d (Reading.opened g s))) ])
+          (elim b [
+            | false ↦ Reading.rule_end g false line r n s (d s)
+            | true ↦ stop_if (Reading.no_token g s) (Cause.TokensFull line) (λ _. Reading.rule_end g true line r n s (d (Reading.opened g s)))
+          ])
           (elim b [ false ↦ m_end (md m) | true ↦ stop_if (leb g.capacity index) (Cause.TokensFull line) (λ _. m_end (md started)) ])
       go true e = subst (λ (c : ℕ). SimFrom o ss s (stop_if (leb g.capacity c) (Cause.TokensFull line) (λ _.
           Reading.rule_end g true line r n s (d (Reading.opened g s))))
@@ -665,7 +678,7 @@ module _ (g : Setting) where
 module _ (g : Setting) (set : ℕ → Bool) (w : Tested g set) where
   module _ (room : Bool) (d : Exp → State → Ending State) (md : Exp → ParserState → Ending ParserState)
       (h : (e : Exp) → Literals e → Steady set e → Preserves g (d e) (md e)) (k : (e : Exp) → Literals e → Steady set e
-          → Keeping g (still set e) (md e)) where
+      → Keeping g (still set e) (md e)) where
     counted : (r : State → Ending State) (m : ParserState → Ending ParserState) → Preserves g r m
         → Preserves g (λ s. Reading.entering room true s r) (λ x. Pest.check_limit room true x m)
     counted r m z = entering_sim g room true r m z
@@ -702,7 +715,7 @@ module _ (g : Setting) (set : ℕ → Bool) (w : Tested g set) where
     level_sim (Grammar.call l) u y =
         let r : RuleLine = g.rule_at l in
         counted _ (λ x. Pest.rule g true r.line r.rule (md r.body) x)
-            (rule_sim g r.line r.rule (d r.body) (md r.body) (h r.body (w.literals l) (w.steady l)))
+        (rule_sim g r.line r.rule (d r.body) (md r.body) (h r.body (w.literals l) (w.steady l)))
 
   refuses : (e : Exp) → Literals e → Steady set e → Preserves g (Reading.no_deeper g e) (Pest.no_deeper g true e)
   refuses e u y o ss p s i v =

@@ -97,22 +97,22 @@ restore_sound c p (k ∷ ks) s = go s.fits (dec_lt k.lowest (length c)) (dec_lt 
     go : Fits (length c) (k ∷ ks) → Dec (k.lowest < length c) → Dec (k.lowest < k.height) → Sound (restore (pest c p (k ∷ ks)))
     go (fits_one l u o f) (yes a) (yes b) =
         let e : length (reverse (take (k.height - k.lowest) p) ++ truncate k.lowest c) ≡ k.height =
-                simp (length-append, length-reverse, length-take, length-drop) (omega (arith, s.owed)) in
+        simp (length-append, length-reverse, length-take, length-drop) (omega (arith, s.owed)) in
         rw (lt-ltb k.lowest (length c) a, lt-ltb k.lowest k.height b)
-            (record { fits = rw e f; owed = simp length-drop (omega (arith, s.owed)); low = omega (arith, s.low) })
+        (record { fits = rw e f; owed = simp length-drop (omega (arith, s.owed)); low = omega (arith, s.low) })
     go (fits_one l u o f) (yes a) (no b) =
         let e : length (truncate k.lowest c) ≡ k.height = simp length-drop (omega arith) in
         rw (lt-ltb k.lowest (length c) a, le-ltb k.lowest k.height (omega arith))
-            (record { fits = rw e f; owed = omega (arith, s.owed); low = omega (arith, s.low) })
+        (record { fits = rw e f; owed = omega (arith, s.owed); low = omega (arith, s.low) })
     go (fits_one l u o f) (no a) (yes b) =
         let e : length (reverse (take (k.height - k.lowest) p) ++ c) ≡ k.height =
-                simp (length-append, length-reverse, length-take) (omega (arith, s.owed)) in
+        simp (length-append, length-reverse, length-take) (omega (arith, s.owed)) in
         rw (le-ltb k.lowest (length c) (omega arith), lt-ltb k.lowest k.height b)
-            (record { fits = rw e f; owed = simp length-drop (omega (arith, s.owed)); low = omega (arith, s.low) })
+        (record { fits = rw e f; owed = simp length-drop (omega (arith, s.owed)); low = omega (arith, s.low) })
     go (fits_one l u o f) (no a) (no b) =
         let e : length c ≡ k.height = omega arith in
         rw (le-ltb k.lowest (length c) (omega arith), le-ltb k.lowest k.height (omega arith))
-            (record { fits = rw e f; owed = omega (arith, s.owed); low = omega (arith, s.low) })
+        (record { fits = rw e f; owed = omega (arith, s.owed); low = omega (arith, s.low) })
 
 pub sound_restore : (v : Pest.Stack) → Sound v → Sound (restore v)
 sound_restore v s = restore_sound v.cache v.popped v.lengths s
@@ -123,7 +123,7 @@ lengths_pop x rest v = go v.lengths
   where
     pick : (b : Bool) (k : Checkpoint) (ks : List Checkpoint)
         → length (if b then pest rest (x ∷ v.popped) (record { height = k.height; lowest = k.lowest - 1 } ∷ ks)
-            else pest rest v.popped (k ∷ ks)).lengths ≡ suc (length ks)
+        else pest rest v.popped (k ∷ ks)).lengths ≡ suc (length ks)
     pick true k ks = refl
     pick false k ks = refl
 

@@ -53,7 +53,7 @@ pop_above : (x : Span) (rest p : Stk) (k : Checkpoint) (ks : List Checkpoint) �
 pop_above x rest p k ks h =
     let l : k.lowest ≡ min k.lowest (length rest) = omega arith in
     rw (ne_eqb (suc (length rest)) k.lowest (λ (e : suc (length rest) ≡ k.lowest). omega arith))
-        (ap (λ (n : ℕ). pest rest p (mark k.height n ∷ ks)) l)
+    (ap (λ (n : ℕ). pest rest p (mark k.height n ∷ ks)) l)
 
 pub inv_pop : (x : Span) (rest : Stk) {p : Stk} {ss : List Stk} {ks : List Checkpoint} → Inv (x ∷ rest) ss p ks → Popped x rest ss p ks
 inv_pop x rest bottom = record { left = []; same = refl; inv = bottom }
@@ -102,8 +102,13 @@ restore_is [] b z q ks = rw (le-ltb (length z) (length z) (omega arith)) (ap (λ
 restore_is (x ∷ a) b z q ks =
     let r : Stk = reverse (x ∷ a) in
     let n : ℕ = length ((x ∷ a) ++ z) - length z in
-    rw (lt-ltb (length z) (length ((x ∷ a) ++ z)) (omega (arith, length-append (x ∷ a) z)), kept_is b z,
-        take_at r q n (over_popped (x ∷ a) z), drop_at r q n (over_popped (x ∷ a) z), reverse-reverse (x ∷ a))
+    rw (
+      lt-ltb (length z) (length ((x ∷ a) ++ z)) (omega (arith, length-append (x ∷ a) z)),
+      kept_is b z,
+      take_at r q n (over_popped (x ∷ a) z),
+      drop_at r q n (over_popped (x ∷ a) z),
+      reverse-reverse (x ∷ a),
+    )
 
 pub inv_restore : {c s p : Stk} {ss : List Stk} {ks : List Checkpoint} → Inv c (s ∷ ss) p ks → Restored c s ss p ks
 inv_restore (snap {ks = ks} a b z q ec es ep ek i) = record {
@@ -175,7 +180,7 @@ inv_clear (snap {c = c} {s = s} {p = p} {k = k} a b z q ec es ep ek i) = onto i 
             snap (a₁ ++ d) b z q₁ ec
             (es₁ ∙ ap (λ (l : Stk). a₁ ++ l) ez ∙ sym (append_assoc a₁ d z))
             (ap₂ (λ (l r : Stk). l ++ r) (ap (take (k₁.lowest - min k₁.lowest k.lowest)) pp ∙ take_at (reverse d) (reverse b₁ ++ q) _ cnt)
-                (e ∙ ep₁) ∙ simp (reverse-append, append_assoc))
+            (e ∙ ep₁) ∙ simp (reverse-append, append_assoc))
             (ap₂ mark (height_of ek₁) lo)
             i₁
         both (longer d ez eb) =
@@ -201,5 +206,14 @@ restore_none c p = refl
 pub popped_is_debt : {c p : Stk} {ss : List Stk} {ks : List Checkpoint} → Inv c ss p ks → length p ≡ debt ks
 popped_is_debt bottom = refl
 popped_is_debt (snap {p = p} {k = k} a b z q ec es ep ek i) =
-    omega (arith, popped_is_debt i, ap length ep, length-append (reverse a) q, length-reverse a, height_of ek, lowest_of ek, ap length es,
-        length-append a z)
+    omega (
+      arith,
+      popped_is_debt i,
+      ap length ep,
+      length-append (reverse a) q,
+      length-reverse a,
+      height_of ek,
+      lowest_of ek,
+      ap length es,
+      length-append a z,
+    )

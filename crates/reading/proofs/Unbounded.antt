@@ -60,8 +60,10 @@ entering_frees room counts f h k m = go (Pest.enter room counts m.call_tracker)
         [ false ↦ Err (Pest.set_call_tracker e.tracker m) | true ↦ h (Pest.set_call_tracker e.tracker m) ])
     go e = pick e.answer
       where
-        pick : (b : Bool) → Freed (elim b [ false ↦ Err (Pest.set_call_tracker e.tracker m)
-            | true ↦ f (Pest.set_call_tracker e.tracker m) ]) (elim b
+        pick : (b : Bool) → Freed (elim b [
+          | false ↦ Err (Pest.set_call_tracker e.tracker m)
+          | true ↦ f (Pest.set_call_tracker e.tracker m)
+        ]) (elim b
             [ false ↦ Err (Pest.set_call_tracker e.tracker m) | true ↦ h (Pest.set_call_tracker e.tracker m) ])
         pick true = k (Pest.set_call_tracker e.tracker m)
         pick false = freed _
@@ -124,7 +126,7 @@ module _ (g : Setting) where
 
       ends : (prev : ℕ) (x y : Ending ParserState) → Freed x y
           → Freed (Pest.rule_end g true line r m.position (length m.queue) pi ni prev x)
-              (Pest.rule_end g false line r m.position (length m.queue) pi ni prev y)
+          (Pest.rule_end g false line r m.position (length m.queue) pi ni prev y)
       ends prev x y (freed (Ok n)) = tracking_frees (is_negative n.lookahead) line r m.position pi ni prev n (λ t.
           Pest.close_rule g true line r (length m.queue) t) (λ t. Pest.close_rule g false line r (length m.queue) t)
           (close_frees line r (length m.queue))
@@ -134,10 +136,14 @@ module _ (g : Setting) where
       ends prev x y (freed_stop c z) = freed_stop c _
 
       go : (b : Bool) → Freed
-          (elim b [ false ↦ Pest.rule_start g true line r pi ni f m m
-              | true ↦ Pest.push_token g true line (Pest.Start 0 m.position) m (λ n. Pest.rule_start g true line r pi ni f m n) ])
-          (elim b [ false ↦ Pest.rule_start g false line r pi ni h m m
-              | true ↦ Pest.push_token g false line (Pest.Start 0 m.position) m (λ n. Pest.rule_start g false line r pi ni h m n) ])
+          (elim b [
+            | false ↦ Pest.rule_start g true line r pi ni f m m
+            | true ↦ Pest.push_token g true line (Pest.Start 0 m.position) m (λ n. Pest.rule_start g true line r pi ni f m n)
+          ])
+          (elim b [
+            | false ↦ Pest.rule_start g false line r pi ni h m m
+            | true ↦ Pest.push_token g false line (Pest.Start 0 m.position) m (λ n. Pest.rule_start g false line r pi ni h m n)
+          ])
       go false = ends (Pest.attempts_at m.position m) (f m) (h m) (k m)
       go true = push_frees line (Pest.Start 0 m.position) m (λ n. Pest.rule_start g true line r pi ni f m n) (λ n.
           Pest.rule_start g false line r pi ni h m n) (λ n. ends (Pest.attempts_at m.position n) (f n) (h n) (k n))
@@ -173,7 +179,7 @@ module _ (g : Setting) where
       go : (o : Option ℕ) (n : ParserState) →
           ((q : ℕ) → Frees (λ m. Pest.stack_match_pop g.text true line rest q m) (λ m. Pest.stack_match_pop g.text false line rest q m))
           → Freed (elim o [ None ↦ Err n | Some q ↦ Pest.stack_match_pop g.text true line rest q n ]) (elim o
-              [ None ↦ Err n | Some q ↦ Pest.stack_match_pop g.text false line rest q n ])
+          [ None ↦ Err n | Some q ↦ Pest.stack_match_pop g.text false line rest q n ])
       go None n ih = freed (Err n)
       go (Some q) n ih = ih q n
 

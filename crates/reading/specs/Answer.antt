@@ -20,8 +20,10 @@ tokens_of (t ∷ q) = token_of t ∷ tokens_of q
 abbrev pub pest_answer : Ending ParserState → Answer
 pest_answer (Ok m) = elim m.call_tracker.limit_reached [ Some c ↦ of_limit c m.attempt_pos | None ↦ of_tokens (tokens_of m.queue) ]
 pest_answer (Err m) =
-    elim m.call_tracker.limit_reached [ Some c ↦ of_limit c m.attempt_pos
-        | None ↦ of_failure m.attempt_pos (ascending m.pos_attempts) (ascending m.neg_attempts) ]
+    elim m.call_tracker.limit_reached [
+      | Some c ↦ of_limit c m.attempt_pos
+      | None ↦ of_failure m.attempt_pos (ascending m.pos_attempts) (ascending m.neg_attempts)
+    ]
 pest_answer (Stop c) = of_cause c
 
 -- To what pest's `state` gives. A panic is no answer of a run.

@@ -252,7 +252,7 @@ module _ (g : Setting) (bounded : Bool) where
         | true ↦
             let n : ParserState = track r p pi ni prev m in
             stop_if (bounded && (ltb most_attempts (length n.pos_attempts) || ltb most_attempts (length n.neg_attempts)))
-                (AttemptsFull line) (λ _. k n)
+            (AttemptsFull line) (λ _. k n)
       ]
 
   abbrev pub close_rule : (line rule index : ℕ) → ParserState → Ending ParserState
@@ -460,7 +460,7 @@ module _ (input : List ℕ) where
     abbrev pub push_end : (line start : ℕ) → Ending ParserState → Ending ParserState
     push_end line start (Ok m) =
         stop_if (bounded && leb most_entries (length m.stack.cache)) (StackFull line) (λ _.
-            Ok (set_stack (push (record { start = start; end = m.position }) m.stack) m))
+        Ok (set_stack (push (record { start = start; end = m.position }) m.stack) m))
     push_end line start (Err m) = Err m
     push_end line start (Stop c) = Stop c
 

@@ -304,7 +304,7 @@ atomic_end s (Stop c) = Stop c
 abbrev pub push_end : (line : ℕ) → State → Ending State → Ending State
 push_end line s (Ok t) =
     stop_if (leb most_entries (length t.stack)) (StackFull line) (λ _.
-        Ok (with_stack (record { start = s.position; end = t.position } ∷ t.stack) t.checkpoints t))
+    Ok (with_stack (record { start = s.position; end = t.position } ∷ t.stack) t.checkpoints t))
 push_end line s (Err t) = Err t
 push_end line s (Stop c) = Stop c
 

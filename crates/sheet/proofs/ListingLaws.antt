@@ -142,7 +142,7 @@ pub fields_part : (ns : List ℕ) (i : ℕ) → length (fields (take i ns)) ≤ 
 fields_part ns i =
     let e : length (fields ns) ≡ length (fields (take i ns)) + length (fields (drop i ns)) =
     ap (λ x. length (fields x)) (sym (take-append-drop i ns))
-        ∙ rw (fields_append (take i ns) (drop i ns)) (length-append (fields (take i ns)) (fields (drop i ns)))
+    ∙ rw (fields_append (take i ns) (drop i ns)) (length-append (fields (take i ns)) (fields (drop i ns)))
     in
     omega arith
 

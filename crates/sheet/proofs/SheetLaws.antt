@@ -313,8 +313,13 @@ pub over_put :
     take at (over pre area) ++ (new ++ drop k (drop at (over pre area))) ≡ over (pre ++ new) area
 unfolding over
 over_put pre new area at k e f =
-    rw (take_at pre (drop (length pre) area) at e, drop_at pre (drop (length pre) area) at e, ← f,
-        drop-drop (length new) (length pre) area, append_assoc)
+    rw (
+      take_at pre (drop (length pre) area) at e,
+      drop_at pre (drop (length pre) area) at e,
+      ← f,
+      drop-drop (length new) (length pre) area,
+      append_assoc,
+    )
     (ap (λ x. pre ++ (new ++ drop x area)) (sym (length-append pre new)))
 
 -- how far the nodes are written: those of the first i lines, and none of the lines from i on is malformed

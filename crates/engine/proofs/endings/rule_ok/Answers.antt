@@ -17,7 +17,7 @@ returns-in-Ok c =
     let due : c.eq-due.result ≡ is_negative c.args.s.now.lookahead = search rules in
     λ g h.
     after_ok g _ c.args.b.now _ c.args.tokens.now c.track_rule.new.scratch c.track_rule.new.s c.in-Ok.is
-        (c.track_rule.ensures.0 g c.args.tokens.now) due
+    (c.track_rule.ensures.0 g c.args.tokens.now) due
     (c.close_rule.ensures.state_after g c.track_rule.new.scratch h)
 
 pub returns-in-Err : goal.returns-in-Err
@@ -25,11 +25,11 @@ returns-in-Err c =
     let due : c.eq-due.result ≡ is_negative c.args.s.now.lookahead = search rules in
     λ g h.
     after_ok g _ c.args.b.now _ c.args.tokens.now c.track_rule.new.scratch c.track_rule.new.s c.in-Err.is
-        (c.track_rule.ensures.0 g c.args.tokens.now) due refl
+    (c.track_rule.ensures.0 g c.args.tokens.now) due refl
 
 pub returns-in-Stop : goal.returns-in-Stop
 returns-in-Stop c =
     let due : c.eq-due.result ≡ is_negative c.args.s.now.lookahead = search rules in
     λ g h.
     after_ok g _ c.args.b.now _ c.args.tokens.now c.track_rule.new.scratch c.track_rule.new.s c.in-Stop.is
-        (c.track_rule.ensures.0 g c.args.tokens.now) due refl
+    (c.track_rule.ensures.0 g c.args.tokens.now) due refl

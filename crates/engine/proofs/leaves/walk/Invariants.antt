@@ -10,7 +10,7 @@ abbrev pub invariant-loop-n : goal.invariant-loop-n
 invariant-loop-n l =
     Line l.g.nodes.now l.at
     × ((d : ℕ) (m : ParserState) → FitIn l.g m → m.position ≡ l.initial.position.0
-        → Onto l.g.nodes.now l.g.literals.now l.g.text.now l.g.room d l.line m l.at l.position.0)
+    → Onto l.g.nodes.now l.g.literals.now l.g.text.now l.g.room d l.line m l.at l.position.0)
 
 abbrev pub decreases-loop-n : goal.decreases-loop-n
 decreases-loop-n l = l.at

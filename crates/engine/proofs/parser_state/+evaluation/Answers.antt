@@ -34,13 +34,13 @@ atomic-returns-in_default t c =
 pub atomic-node-r-requires : goal.atomic-node-r-requires
 atomic-node-r-requires t c =
     let o = let_in (atomic_at c.args.g.now c.requires.ready c.line_at-n.ensures c.requires.line c.atomicity_of-s.ensures) c.enter.ensures
-            c.in-Some.is in
+    c.in-Some.is in
     calls o c.decreases (ready_atom _ _ _ _ (less o) c.atomicity_of-s.result)
 
 pub atomic-returns : goal.atomic-returns
 atomic-returns t c =
     let o = let_in (atomic_at c.args.g.now c.requires.ready c.line_at-n.ensures c.requires.line c.atomicity_of-s.ensures) c.enter.ensures
-            c.in-Some.is in
+    c.in-Some.is in
     on_tree o.over
     (atomic_step _ _ _ _ _ _ o.entry (ready_atom _ _ _ _ (less o) _) c.node-r.ensures refl
     (c.atomic_end.ensures c.node-r.new.tokens c.node-r.new.scratch))
@@ -58,8 +58,11 @@ left_side-simple-e-requires t c = (
 )
 
 pub left_side-loop-k-init : goal.left_side-loop-k-init
-left_side-loop-k-init t c = (c.descend-low.result.count, refl,
-    first_climb _ _ _ _ _ c.requires.ready c.requires.line c.descend-low.ensures c.simple-e.ensures)
+left_side-loop-k-init t c = (
+  c.descend-low.result.count,
+  refl,
+  first_climb _ _ _ _ _ c.requires.ready c.requires.line c.descend-low.ensures c.simple-e.ensures,
+)
 
 pub left_side-spine_at-l-requires : goal.left_side-spine_at-l-requires
 left_side-spine_at-l-requires t c = (
@@ -255,7 +258,7 @@ repeat-returns-in-Err t c =
     let o = let_in (repeat_at c.args.g.now c.requires.ready c.line_at-n.ensures c.requires.line) c.enter.ensures c.in-Some.is in
     on_tree o.over
     (repeat_err _ _ _ _ _ _ c.loop-s.invariant o.entry (told _ _ _ c.node.ensures c.in-Err.is)
-        (c.forgiven.ensures c.node.new.tokens c.node.new.scratch))
+    (c.forgiven.ensures c.node.new.tokens c.node.new.scratch))
 
 pub repeat-returns-in-Stop : goal.repeat-returns-in-Stop
 repeat-returns-in-Stop t c =
@@ -291,7 +294,7 @@ restore_on_err-returns t c =
     let o = let_in (restore_at c.args.g.now c.requires.ready c.line_at-n.ensures c.requires.line) c.enter.ensures c.in-Some.is in
     on_tree o.over
     (restore_step _ _ _ _ _ o.entry (c.checkpoint.ensures.state_after c.args.tokens.now) c.node-r.ensures
-        (c.restore_on_err_end.ensures c.node-r.new.tokens))
+    (c.restore_on_err_end.ensures c.node-r.new.tokens))
 
 -- ── rule ──
 -- An open entry, the rule's Start, the body, `rule_end` from what was noted before: put together by `rule_step`.

@@ -47,12 +47,12 @@ abbrev pub invariant-left_side-loop-k : goal.invariant-left_side-loop-k
 invariant-left_side-loop-k l =
     (i : ℕ) × (i + l.k ≡ l.low.count + 1)
     × Climbing l.g.nodes.now l.g.literals.now l.g.text.now l.g.room l.depth l.line l.low.count l.initial.tokens l.initial.scratch
-        (view_end l.initial.tokens l.initial.scratch l.initial.s l.initial.e) l.tokens l.scratch (view_end l.tokens l.scratch l.s l.e) i
+    (view_end l.initial.tokens l.initial.scratch l.initial.s l.initial.e) l.tokens l.scratch (view_end l.tokens l.scratch l.s l.e) i
 
 abbrev pub invariant-packed_node-loop-good : goal.invariant-packed_node-loop-good
 invariant-packed_node-loop-good l =
     Walking l.g.nodes.now l.g.literals.now l.g.text.now l.g.room l.depth l.line l.initial.tokens l.initial.scratch
-        (view l.initial.tokens l.initial.scratch l.initial.s) l.tokens l.scratch l.at (view l.tokens l.scratch l.s)
+    (view l.initial.tokens l.initial.scratch l.initial.s) l.tokens l.scratch l.at (view l.tokens l.scratch l.s)
 
 abbrev pub decreases-packed_node-loop-good : goal.decreases-packed_node-loop-good
 decreases-packed_node-loop-good l = l.at
@@ -60,7 +60,7 @@ decreases-packed_node-loop-good l = l.at
 abbrev pub invariant-repeat-loop-s : goal.invariant-repeat-loop-s
 invariant-repeat-loop-s l =
     Turning l.g.nodes.now l.g.literals.now l.g.text.now l.g.room l.deeper l.n.a l.initial.tokens l.initial.scratch
-        (view l.initial.tokens l.initial.scratch l.initial.s) l.tokens l.scratch (view l.tokens l.scratch l.s)
+    (view l.initial.tokens l.initial.scratch l.initial.s) l.tokens l.scratch (view l.tokens l.scratch l.s)
 
 abbrev pub decreases-repeat-loop-s : goal.decreases-repeat-loop-s
 decreases-repeat-loop-s l = length l.g.text.now - l.s.position.0

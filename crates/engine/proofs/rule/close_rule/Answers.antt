@@ -42,7 +42,7 @@ returns-clause-state_after c =
     λ scratch. sym (c.produces.ensures a scratch) ∙ passed_test _ (ap not c.if-not-produces.false) in
     let pair : Paired a i s.queue.0 b = paired_at a b s _ i refl c.pair_up.ensures in
     let push : Pushed b s.queue.0 (End i c.args.b.now.rule 0 s.position.0) d =
-            pushed_at b d s _ _ (End i c.args.b.now.rule 0) refl refl c.push_end.ensures in
+    pushed_at b d s _ _ (End i c.args.b.now.rule 0) refl refl c.push_end.ensures in
     λ g scratch e.
     ap (λ (m : Pest.ParserState). Ok m) (one_more d scratch s _ _ refl refl) ∙ close_ok g c.args.b.now.line c.args.b.now.rule i
     (view a scratch s) _ _ (on scratch)

@@ -24,6 +24,6 @@ returns-in-Some c = let a : List ℕ = c.args.scratch.now in
           ∙ track_told g c.args.due c.args.b.now.line c.args.b.now.rule c.args.b.now.position.0 c.args.b.now.noted
           (view tokens a s) _ _ _ (ap (option_map (tried b)) (sym c.in-Some.is))
           (track_read a _ _ refl c.args.b.now.rule c.args.b.now.position.0 c.args.b.now.noted c.eq-negative.result _ c.track.ensures.0)
-              negative due off,
+          negative due off,
       c.track.ensures.1,
     )

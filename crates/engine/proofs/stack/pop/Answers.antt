@@ -18,13 +18,13 @@ returns-then-top-h-clause-state_after c =
 pub returns-clause-state_after : goal.returns-clause-state_after
 returns-clause-state_after c =
     (pop_at c.args.scratch.now c.args.s c.requires c.if-h-eq0.false _ c.pair_at-x.ensures _ c.span_of-2.ensures c.if-c-eq0.false _
-        c.pair_at-top.ensures
+    c.pair_at-top.ensures
     _ _ c.if-top-h.false (omega arith) c.put_pair.ensures c.put_pair-2.ensures).0
 
 pub returns-clause-outside_stack : goal.returns-clause-outside_stack
 returns-clause-outside_stack c =
     (pop_at c.args.scratch.now c.args.s c.requires c.if-h-eq0.false _ c.pair_at-x.ensures _ c.span_of-2.ensures c.if-c-eq0.false _
-        c.pair_at-top.ensures
+    c.pair_at-top.ensures
     _ _ c.if-top-h.false (omega arith) c.put_pair.ensures c.put_pair-2.ensures).1
 
 pub returns-then-p-eq-MOST_DEBT-clause-state_after : goal.returns-then-p-eq-MOST_DEBT-clause-state_after

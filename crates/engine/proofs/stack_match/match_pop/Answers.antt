@@ -16,8 +16,10 @@ entries-smaller c =
 pub entries-preserved : goal.entries-preserved
 entries-preserved c =
     let fits = bytes_fit c.args.text.now c.as_bytes-bytes.result.now c.entries.at _ c.has_room.ensures (ap not c.if-not-has_room.false) in
-    going_more c.entries.invariant c.if-h-eq0.false c.pop.result (c.pop.ensures.state_after,
-        c.pop.ensures.outside_stack) c.in-Ok.is c.as_bytes-bytes.ensures
+    going_more c.entries.invariant c.if-h-eq0.false c.pop.result (
+      c.pop.ensures.state_after,
+      c.pop.ensures.outside_stack,
+    ) c.in-Ok.is c.as_bytes-bytes.ensures
     (bytes_all c.args.text.now c.as_bytes-bytes.result.now c.entries.at _ c.loop-i.invariant fits c.loop-i-test.false)
 
 pub returns-then-h-eq0-clause-state_after : goal.returns-then-h-eq0-clause-state_after
@@ -25,8 +27,10 @@ returns-then-h-eq0-clause-state_after c = going_empty c.entries.invariant c.if-h
 
 pub returns-then-text-at-clause-state_after : goal.returns-then-text-at-clause-state_after
 returns-then-text-at-clause-state_after c =
-    going_failed c.entries.invariant c.if-h-eq0.false c.pop.result (c.pop.ensures.state_after,
-        c.pop.ensures.outside_stack) c.in-Ok.is c.as_bytes-bytes.ensures
+    going_failed c.entries.invariant c.if-h-eq0.false c.pop.result (
+      c.pop.ensures.state_after,
+      c.pop.ensures.outside_stack,
+    ) c.in-Ok.is c.as_bytes-bytes.ensures
     (bytes_differ c.args.text.now c.as_bytes-bytes.result.now c.entries.at _ c.loop-i.invariant
     (bytes_fit c.args.text.now c.as_bytes-bytes.result.now c.entries.at _ c.has_room.ensures (ap not c.if-not-has_room.false))
     c.loop-i-test.true c.if-text-at.true)

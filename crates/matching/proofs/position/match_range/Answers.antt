@@ -24,6 +24,8 @@ returns-then-c-high c =
 pub returns-else-low-c : goal.returns-else-low-c
 returns-else-low-c c =
     let w : within c.args.low c.args.high c.in_ok-c.c.value ≡ false =
-    elim c.else-low-c.either [ inl h ↦ above c.args.low c.args.high c.in_ok-c.c.value h.1
-        | inr h ↦ below c.args.low c.args.high c.in_ok-c.c.value h ] in
+    elim c.else-low-c.either [
+      | inl h ↦ above c.args.low c.args.high c.in_ok-c.c.value h.1
+      | inr h ↦ below c.args.low c.args.high c.in_ok-c.c.value h
+    ] in
     sym (ap matched (rw w at (char_moves c.args.input.now c.args.pos.0 c.in_ok-c.c (sym c.in_ok-c.ensures) (within c.args.low c.args.high))))

@@ -20,12 +20,18 @@ pub slice_bounds-write_later-end : goal.slice_bounds-write_later-end
 slice_bounds-write_later-end c = c.loop-k.invariant.1.room
 
 pub overflow_add-size : goal.overflow_add-size
-overflow_add-size c = omega (arith, sized_small _ _ _ _ _ _
-    (sized_more _ _ _ _ _ _ c.loop-k.invariant.1 _ _ (omega arith) c.write_later-size.auto.out c.write_later-size.ensures))
+overflow_add-size c = omega (
+  arith,
+  sized_small _ _ _ _ _ _
+      (sized_more _ _ _ _ _ _ c.loop-k.invariant.1 _ _ (omega arith) c.write_later-size.auto.out c.write_later-size.ensures),
+)
 
 pub loop-k-preserved : goal.loop-k-preserved
-loop-k-preserved c = (c.loop-k.invariant.0, sized_more _ _ _ _ _ _ c.loop-k.invariant.1 _ _
-    (omega (arith, c.loop-k.invariant.0, c.loop-k-test.true)) c.write_later-size.auto.out c.write_later-size.ensures)
+loop-k-preserved c = (
+  c.loop-k.invariant.0,
+  sized_more _ _ _ _ _ _ c.loop-k.invariant.1 _ _
+      (omega (arith, c.loop-k.invariant.0, c.loop-k-test.true)) c.write_later-size.auto.out c.write_later-size.ensures,
+)
 
 pub returns : goal.returns
 returns c = sized_all _ _ _ _ _ _ c.loop-k.invariant.1 (omega (arith, c.loop-k.invariant.0, c.loop-k-test.false))

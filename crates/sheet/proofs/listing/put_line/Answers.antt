@@ -16,8 +16,11 @@ pub bounds-out-at : goal.bounds-out-at
 bounds-out-at c = filled_end _ _ _ _ _ c.loop-n.invariant c.requires c.loop-n-test.false
 
 pub overflow_add-result : goal.overflow_add-result
-overflow_add-result c = omega (arith, filled_end _ _ _ _ _ c.loop-n.invariant c.requires c.loop-n-test.false,
-    filled_length _ _ _ _ _ c.loop-n.invariant c.requires)
+overflow_add-result c = omega (
+  arith,
+  filled_end _ _ _ _ _ c.loop-n.invariant c.requires c.loop-n-test.false,
+  filled_length _ _ _ _ _ c.loop-n.invariant c.requires,
+)
 
 pub returns : goal.returns
 returns c = filled_line _ _ _ _ _ c.loop-n.invariant c.requires c.loop-n-test.false

@@ -18,8 +18,11 @@ overflow_add-at c = let s = lined_more _ _ _ _ _ _ _ c.loop-k.invariant.1 _ _ (o
     omega (arith, lined_place _ _ _ _ _ _ _ s, c.write_head-at.auto.out)
 
 pub loop-k-preserved : goal.loop-k-preserved
-loop-k-preserved c = (c.loop-k.invariant.0, lined_more _ _ _ _ _ _ _ c.loop-k.invariant.1 _ _
-    (omega (arith, c.loop-k.invariant.0, c.loop-k-test.true)) c.write_later-at.ensures)
+loop-k-preserved c = (
+  c.loop-k.invariant.0,
+  lined_more _ _ _ _ _ _ _ c.loop-k.invariant.1 _ _
+      (omega (arith, c.loop-k.invariant.0, c.loop-k-test.true)) c.write_later-at.ensures,
+)
 
 pub returns : goal.returns
 returns c = lined_from _ _ _ _ _ _ c.requires c.write_head-at.ensures _ _
