@@ -20,8 +20,10 @@ pub(crate) enum Halt {
     At(usize),
 }
 
-// A line of kind 1 to 5.
+// A line of kind 1 to 5. Stands in its two callers, as `walk` takes most lines of a run: left to the compiler it is a call, and a run of
+// the JSON sheet takes 8 % longer (docs/BENCHMARKS.md).
 // Kept: a `match` on the kind's number, which is document 01's and C's; each arm calls a function of another shape.
+#[inline(always)]
 pub(crate) fn leaf(g: &Setting, line: usize, p: BytePosition) -> Option<BytePosition>
     requires { Line g.now.nodes.now line × (kind_at g.now.nodes.now line ≤ 5) }
     ensures { (depth : ℕ) (m : Pest.ParserState) → FitIn g.now m → m.position ≡ p.0 → Pest.moved (match_of result) m ≡ evaluates g.now depth line m }
