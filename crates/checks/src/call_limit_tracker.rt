@@ -5,11 +5,12 @@ ghost use Rattle.checks.specs.Tracker.{one_more, by_depth, entry_at, answered};
 
 use reading::call_limit_tracker::LimitKind;
 
-// pest's `CallLimitTracker`: the counted calls, the call limit (0: none, and nothing is counted), and the limit that was reached.
+// pest's `CallLimitTracker`: the counted calls (without a limit too, where pest counts none), the call limit (0: none), and the limit that
+// was reached.
 #[derive(Clone, Copy)]
 pub struct CallLimitTracker {
-    pub current: usize,
-    pub limit: usize,
+    pub current: u64,
+    pub limit: u64,
     pub reached: Option<LimitKind>,
 }
 
@@ -20,16 +21,12 @@ fn exceeded(t: CallLimitTracker) -> bool
     t.limit != 0 && t.limit <= t.current
 }
 
-// One counted call more. Where there is no limit nothing is counted, so that the count never overflows.
+// One counted call more: the count "stays at its largest once there" (document 02, request 5).
 fn one_more(t: CallLimitTracker) -> CallLimitTracker
-    requires { over t.limit t.current ≡ false }
     ensures { result ≡ one_more t }
 {
-    if t.limit == 0 {
-        return t;
-    }
     CallLimitTracker {
-        current: t.current + 1,
+        current: t.current.saturating_add(1),
         ..t
     }
 }

@@ -222,7 +222,7 @@ fn entry(rt: &impl Print, t: CallLimitTracker, counted: bool, room: usize) -> io
     answer(rt, if let_in { Ok(lent) } else { Err(lent) })
 }
 
-fn at(current: usize, limit: usize) -> CallLimitTracker {
+fn at(current: u64, limit: u64) -> CallLimitTracker {
     CallLimitTracker {
         current,
         limit,
@@ -230,7 +230,7 @@ fn at(current: usize, limit: usize) -> CallLimitTracker {
     }
 }
 
-fn stopped(current: usize, limit: usize, kind: LimitKind) -> CallLimitTracker {
+fn stopped(current: u64, limit: u64, kind: LimitKind) -> CallLimitTracker {
     CallLimitTracker {
         current,
         limit,
@@ -242,6 +242,9 @@ fn entries(rt: &impl Print) -> io::Result<()> {
     entry(rt, at(0, 0), true, 1)?;
     entry(rt, at(7, 0), true, 1)?;
     entry(rt, at(7, 0), true, 0)?;
+    entry(rt, at(7, 0), false, 1)?;
+    entry(rt, at(u64::MAX - 1, 0), true, 1)?;
+    entry(rt, at(u64::MAX, 0), true, 1)?;
     entry(rt, at(0, 2), true, 1)?;
     entry(rt, at(1, 2), true, 1)?;
     entry(rt, at(2, 2), true, 1)?;

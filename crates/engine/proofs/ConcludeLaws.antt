@@ -8,9 +8,12 @@ use native.Mathlib.Omega.{arith}
 use lib.ListN.{length}
 use lib.Dec.{eqb, ltb}
 use Rattle.reading.specs.Pest.{QueueableToken}
-use Rattle.engine.specs.Areas.{numbers, queue_of}
+use Rattle.reading.specs.declared.parser_state.Ending.{Ending}
+use Rattle.reading.specs.declared.parser_state.Ending.TheVariants as Code
+use Rattle.engine.specs.declared.parser_state.ParserState.{ParserState}
+use Rattle.engine.specs.Areas.{numbers, queue_of, view_end}
 use Rattle.reading.specs.Outcome.{insert, ascending, Outcome}
-use Rattle.reading.specs.Answer.{tokens_of}
+use Rattle.reading.specs.Answer.{tokens_of, pest_calls}
 use Rattle.engine.proofs.Regions.{numbers_length}
 use Rattle.engine.proofs.TokenLaws.{queue_length}
 
@@ -45,3 +48,10 @@ pub outcome_ext : {k p c c' : ℕ} {t t' r r' : List ℕ} → c ≡ c' → t ≡
     → ◌≡◌ {A = Outcome} (record { number = k; place = p; count = c; tokens = t; report = r })
     (record { number = k; place = p; count = c'; tokens = t'; report = r' })
 outcome_ext {k = k} {p = p} a b d = λ i. record { number = k; place = p; count = a i; tokens = b i; report = d i }
+
+-- ── The counted calls ──
+-- Whichever ending it is, they are the tracker's count.
+pub calls_left : (tokens scratch : List ℕ) (s : ParserState) (r : Ending) → s.tracker.current ≡ pest_calls (view_end tokens scratch s r)
+calls_left tokens scratch s Code.Ok = refl
+calls_left tokens scratch s Code.Err = refl
+calls_left tokens scratch s (Code.Stop c) = refl

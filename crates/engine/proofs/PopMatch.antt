@@ -83,15 +83,17 @@ module _ (text : List ℕ) (v : Pest.Stack) (line p : ℕ) (m : ParserState) whe
   pub step_empty : v.cache ≡ [] → Ok (set_position p (set_stack v m)) ≡ stack_match_pop text true line v.cache p (set_stack v m)
   step_empty e = rw e
 
-  pub step_full : (v.cache ≡ [] → ⊥) → taken v ≡ Take.full → Stop (StackFull line) ≡ stack_match_pop text true line v.cache p (set_stack v m)
+  pub step_full : (v.cache ≡ [] → ⊥) → taken v ≡ Take.full
+      → Stop (Pest.halted (StackFull line) m) ≡ stack_match_pop text true line v.cache p (set_stack v m)
   step_full n e = go v.cache n e
     where
       pick : (y : Span) (rest : List Span) (b : Bool) (k : Unit {0} → Ending ParserState) → (if b then Take.full else got (pop y rest v) y)
-          ≡ Take.full → Stop (StackFull line) ≡ stop_if b (StackFull line) k
+          ≡ Take.full → Stop (Pest.halted (StackFull line) m) ≡ stop_if b (Pest.halted (StackFull line) m) k
       pick y rest true k e = refl
       pick y rest false k e = let z : ◌≡◌ {A = ℕ} 0 1 = cc in absurd (omega arith)
 
-      go : (c : List Span) → (c ≡ [] → ⊥) → taken_from c v ≡ Take.full → Stop (StackFull line) ≡ stack_match_pop text true line c p (set_stack v m)
+      go : (c : List Span) → (c ≡ [] → ⊥) → taken_from c v ≡ Take.full
+          → Stop (Pest.halted (StackFull line) m) ≡ stack_match_pop text true line c p (set_stack v m)
       go [] n e = absurd (n refl)
       go (y ∷ rest) n e = pick y rest (ltb 1024 (debt (pop y rest v).lengths))
           (λ _. elim (Pest.match_string text (as_str text y) p)
@@ -113,7 +115,7 @@ module _ (text : List ℕ) (v : Pest.Stack) (line p : ℕ) (m : ParserState) whe
         after u = elim (Pest.match_string text (as_str text x) p)
             [ None ↦ Err (set_stack u m) | Some q ↦ stack_match_pop text true line w.cache q (set_stack u m) ]
 
-        pick : (b : Bool) → b ≡ false → stop_if b (StackFull line) (λ _. after (pop x w.cache v)) ≡ after (pop x w.cache v)
+        pick : (b : Bool) → b ≡ false → stop_if b (Pest.halted (StackFull line) m) (λ _. after (pop x w.cache v)) ≡ after (pop x w.cache v)
         pick b e = rw e
 
     pub step_some : (q : ℕ) → Pest.match_string text (as_str text x) p ≡ Some q
@@ -179,7 +181,7 @@ module _ {text a₀ : List ℕ} {s₀ : Stack} {p₀ : ℕ} {a : List ℕ} {s : 
 
     -- The pop found no room.
     pub going_full : ((y : Stack × Code.Span) → r ≡ Result.Ok y → ⊥)
-        → (line : ℕ) (m : ParserState) → Stop (StackFull line) ≡ stack_match_pop text true line (stack_of a₀ s₀).cache p₀
+        → (line : ℕ) (m : ParserState) → Stop (Pest.halted (StackFull line) m) ≡ stack_match_pop text true line (stack_of a₀ s₀).cache p₀
         (set_stack (stack_of a₀ s₀) m)
     going_full n line m = step_full text (stack_of a s) line p m some_entry (go r n e.0) ∙ g.rest line m
       where

@@ -15,7 +15,7 @@ use Rattle.reading.specs.declared.parser_state.Ending.TheVariants as Code·of
 use Rattle.reading.specs.Ending.{Ending, Ok, Err, Stop, on_ok, stop_if, is_negative, is_atomic}
 use Rattle.reading.specs.Grammar.{end_of_input}
 use Rattle.reading.specs.Reading.{Setting, most_attempts}
-use Rattle.reading.specs.Pest.{ParserState, tracking, track, close_rule}
+use Rattle.reading.specs.Pest.{halted, ParserState, tracking, track, close_rule}
 use Rattle.engine.specs.Areas.{view, view_end}
 use Rattle.engine.specs.Ends.{rule_ended}
 use Rattle.engine.specs.Rule.{dropped, Recording}
@@ -35,14 +35,14 @@ module _ (g : Setting) (due : Bool) (line r p : ℕ) (n : Noted) (m : ParserStat
       t : ParserState
       t = track r p n.positives n.negatives n.total m
 
-      kept : is_atomic m.atomicity ≡ false → (full : Bool) → At (stop_if full (AttemptsFull line) (λ _. Ok t)) m.position
+      kept : is_atomic m.atomicity ≡ false → (full : Bool) → At (stop_if full (halted (AttemptsFull line) m) (λ _. Ok t)) m.position
       kept e true = tt
       kept e false = ap (λ (x : ParserState). x.position) (track_is r p n m e)
 
       go : (d b : Bool) → is_atomic m.atomicity ≡ b
           → At (elim (d && not b) [
             | false ↦ Ok m
-            | true ↦ stop_if (ltb most_attempts (length t.pos_attempts) || ltb most_attempts (length t.neg_attempts)) (AttemptsFull line)
+            | true ↦ stop_if (ltb most_attempts (length t.pos_attempts) || ltb most_attempts (length t.neg_attempts)) (halted (AttemptsFull line) m)
                 (λ _. Ok t)
           ]) m.position
       go false b e = refl

@@ -43,11 +43,11 @@ module _ {A : Type 0} (b : Bool) (x y : A) where
 -- ── push ──
 module _ (g : Setting) (line : ℕ) (t : QueueableToken) (m : ParserState) where
   push_ok : length m.queue < g.capacity → Ok (set_queue (m.queue ++ (t ∷ [])) m) ≡ push_token g true line t m (λ s. Ok s)
-  push_ok l = when_false (leb g.capacity (length m.queue)) (Ok (set_queue (m.queue ++ (t ∷ [])) m)) (Stop (TokensFull line))
+  push_ok l = when_false (leb g.capacity (length m.queue)) (Ok (set_queue (m.queue ++ (t ∷ [])) m)) (Stop (Pest.halted (TokensFull line) m))
       (lt-leb g.capacity (length m.queue) l)
 
-  push_full : g.capacity ≤ length m.queue → Stop (TokensFull line) ≡ push_token g true line t m (λ s. Ok s)
-  push_full l = when_true (leb g.capacity (length m.queue)) (Ok (set_queue (m.queue ++ (t ∷ [])) m)) (Stop (TokensFull line))
+  push_full : g.capacity ≤ length m.queue → Stop (Pest.halted (TokensFull line) m) ≡ push_token g true line t m (λ s. Ok s)
+  push_full l = when_true (leb g.capacity (length m.queue)) (Ok (set_queue (m.queue ++ (t ∷ [])) m)) (Stop (Pest.halted (TokensFull line) m))
       (le-leb g.capacity (length m.queue) l)
 
 -- ── start ──
@@ -58,7 +58,7 @@ module _ (g : Setting) (line : ℕ) (m : ParserState) where
       ap (λ (x : List QueueableToken). Ok (set_queue x m)) e ∙ push_ok g line (Start 0 m.position) m l
       ∙ when_true (produces m) (Ok m) (push_token g true line (Start 0 m.position) m (λ s. Ok s)) t
 
-  pub start_full : produces m ≡ true → g.capacity ≤ length m.queue → Stop (TokensFull line) ≡ starting g line m
+  pub start_full : produces m ≡ true → g.capacity ≤ length m.queue → Stop (Pest.halted (TokensFull line) m) ≡ starting g line m
   start_full t l = push_full g line (Start 0 m.position) m l
       ∙ when_true (produces m) (Ok m) (push_token g true line (Start 0 m.position) m (λ s. Ok s)) t
 
@@ -88,7 +88,7 @@ module _ (g : Setting) (line r i : ℕ) (m : ParserState) where
       ∙ push_ok g line (End i r 0 m.position) (set_queue (partnered i m.queue) m) (omega (arith, same_size))
       ∙ when_true (produces m) (Ok m) (push_token g true line (End i r 0 m.position) (set_queue (partnered i m.queue) m) (λ s. Ok s)) t
 
-  pub close_full : produces m ≡ true → g.capacity ≤ length m.queue → Stop (TokensFull line) ≡ close_rule g true line r i m
+  pub close_full : produces m ≡ true → g.capacity ≤ length m.queue → Stop (Pest.halted (TokensFull line) m) ≡ close_rule g true line r i m
   close_full t l =
       push_full g line (End i r 0 m.position) (set_queue (partnered i m.queue) m) (omega (arith, same_size))
       ∙ when_true (produces m) (Ok m) (push_token g true line (End i r 0 m.position) (set_queue (partnered i m.queue) m) (λ s. Ok s)) t
@@ -154,16 +154,17 @@ kept_view tokens a b s u h p o = ap (λ (v : Pest.Stack). Pest.set_stack v (with
 -- The state with the attempts that were kept, or a stop.
 abbrev pub told : (line : ℕ) → Option Tried → ParserState → Ending ParserState
 told line (Some t) m = Ok (with_tried t m)
-told line None m = Stop (AttemptsFull line)
+told line None m = Stop (Pest.halted (AttemptsFull line) m)
 
 -- `tracking`, once it is due
-abbrev now_tracked : (line : ℕ) → ParserState → Ending ParserState
-now_tracked line n = stop_if (ltb most_attempts (length n.pos_attempts) || ltb most_attempts (length n.neg_attempts)) (AttemptsFull line) (λ _. Ok n)
+abbrev now_tracked : (line : ℕ) → (before after : ParserState) → Ending ParserState
+now_tracked line m n =
+    stop_if (ltb most_attempts (length n.pos_attempts) || ltb most_attempts (length n.neg_attempts)) (Pest.halted (AttemptsFull line) m) (λ _. Ok n)
 
-told_within : (line : ℕ) (t : Tried) (m : ParserState) → told line (within t) m ≡ now_tracked line (with_tried t m)
+told_within : (line : ℕ) (t : Tried) (m : ParserState) → told line (within t) m ≡ now_tracked line m (with_tried t m)
 told_within line t m = go (ltb most_attempts (length t.positive) || ltb most_attempts (length t.negative))
   where
-    go : (b : Bool) → told line (if b then None else Some t) m ≡ stop_if b (AttemptsFull line) (λ _. Ok (with_tried t m))
+    go : (b : Bool) → told line (if b then None else Some t) m ≡ stop_if b (Pest.halted (AttemptsFull line) m) (λ _. Ok (with_tried t m))
     go true = refl
     go false = refl
 
@@ -178,8 +179,8 @@ module _ (g : Setting) (due : Bool) (line r p : ℕ) (n : Noted) (m : ParserStat
   track_told v w neg q e h d f =
       ap (λ (x : Option Tried). told line x m) (q ∙ e ∙ ap (λ (b : Bool). within (tracked r p n b (tried_of m))) h)
       ∙ told_within line (tracked r p n (is_negative m.lookahead) (tried_of m)) m
-      ∙ ap (now_tracked line) (sym (track_is r p n m f))
-      ∙ when_true (due && not (is_atomic m.atomicity)) (Ok m) (now_tracked line after) (rw (d, f))
+      ∙ ap (now_tracked line m) (sym (track_is r p n m f))
+      ∙ when_true (due && not (is_atomic m.atomicity)) (Ok m) (now_tracked line m after) (rw (d, f))
 
 -- The attempts t that were read, put for those of the state, u.
 module _ (a : List ℕ) (t u : Attempts) (same : t ≡ u) where
@@ -203,8 +204,8 @@ module _ (g : Setting) (line r : ℕ) where
       pushed : ParserState
       pushed = set_queue (m.queue ++ (Start 0 m.position ∷ [])) m
 
-      go : (b c : Bool) → elim b [ false ↦ k m | true ↦ stop_if c (TokensFull line) (λ _. k pushed) ]
-          ≡ on_ok (elim b [ false ↦ Ok m | true ↦ stop_if c (TokensFull line) (λ _. Ok pushed) ]) k
+      go : (b c : Bool) → elim b [ false ↦ k m | true ↦ stop_if c (Pest.halted (TokensFull line) m) (λ _. k pushed) ]
+          ≡ on_ok (elim b [ false ↦ Ok m | true ↦ stop_if c (Pest.halted (TokensFull line) m) (λ _. Ok pushed) ]) k
       go true true = refl
       go true false = refl
       go false true = refl
@@ -218,8 +219,8 @@ module _ (g : Setting) (line r : ℕ) where
       n : ParserState
       n = Pest.track r p pi ni prev m
 
-      go : (b c : Bool) → elim b [ false ↦ k m | true ↦ stop_if c (AttemptsFull line) (λ _. k n) ]
-          ≡ on_ok (elim b [ false ↦ Ok m | true ↦ stop_if c (AttemptsFull line) (λ _. Ok n) ]) k
+      go : (b c : Bool) → elim b [ false ↦ k m | true ↦ stop_if c (Pest.halted (AttemptsFull line) m) (λ _. k n) ]
+          ≡ on_ok (elim b [ false ↦ Ok m | true ↦ stop_if c (Pest.halted (AttemptsFull line) m) (λ _. Ok n) ]) k
       go true true = refl
       go true false = refl
       go false true = refl

@@ -22,19 +22,20 @@ use Rattle.engine.specs.Areas.{numbers, pairs, queue_of, positives_at, negatives
 use Rattle.checks.specs.Tracker.{limit_of}
 use Rattle.reading.specs.Fit.{Fit}
 use Rattle.checks.specs.Refusals.{refusal_of}
-use Rattle.reading.specs.Outcome.{Input, Refusal, refusal, refused, capacity, setting, reading, answer, Answer, Outcome, laid, started, outcome}
-use Rattle.reading.specs.Answer.{pest_answer}
+use Rattle.reading.specs.Outcome.{Input, Refusal, refusal, refused, capacity, setting, reading, answer, Outcome, laid, started, outcome, RunOutcome}
+use Rattle.reading.specs.Outcome.{calls_of, counted_calls}
+use Rattle.reading.specs.Answer.{pest_answer, pest_calls}
 use Rattle.engine.specs.Conclude.{Concluding, ConcludeReady}
 use Rattle.engine.specs.Evaluation.{Ready, Line, evaluated}
 use Rattle.reading.specs.Run.{Ran}
 use Rattle.engine.proofs.Regions.{numbers_length}
+use Rattle.engine.proofs.ConcludeLaws.{calls_left}
 use Rattle.engine.proofs.TokenLaws.{queue_length}
 use Rattle.reading.proofs.Invariant.{Keeps, keeps_ok, keeps_err, keeps_stop, eval_keeps}
 use Rattle.reading.proofs.Agree.{initial_is, initial_fit}
 use Rattle.reading.proofs.Accepted as Accepted
 use Rattle.reading.proofs.Accepted.{Started, rule_still}
-use Rattle.reading.proofs.Runs.{tested, root_literals, root_steady, run_alike}
-use Rattle.reading.proofs.Runs.{outcome_is}
+use Rattle.reading.proofs.Runs.{tested, root_literals, root_steady, run_alike, run_calls, outcome_is, calls_are, laid_same}
 
 -- A call limit of 0 is none.
 limit_is : (l : ℕ) → limit_of 0 l ≡ (Pest.new l).call_tracker.current_call_limit
@@ -64,15 +65,16 @@ first_is l tokens scratch = ap (λ (x : Option CallLimit). record {
   attempt_pos = 0;
   atomicity = NonAtomic;
   stack = record { cache = []; popped = []; lengths = [] };
-  call_tracker =
-      record { current_call_limit = x; limit_reached = None };
+  call_tracker = record { current_call_limit = x; limit_reached = None; calls = 0 };
 }) (limit_is l)
 
 -- ── A refused run ──
-pub refused_is : (i : Input) (scratch : List ℕ) (r : Refused) → Some (refusal_of r) ≡ refusal i → Ran i (refused i (refusal_of r)) scratch scratch
-unfolding outcome
+pub refused_is : (i : Input) (scratch : List ℕ) (r : Refused) → Some (refusal_of r) ≡ refusal i
+    → Ran i (record { outcome = refused i (refusal_of r); calls = 0 }) scratch scratch
+unfolding outcome counted_calls
 refused_is i scratch r h = record {
   is = ap (λ (o : Option Refusal). elim o as (λ _. Outcome) [ Some t ↦ refused i t | None ↦ started i (answer (reading i)) ]) h;
+  counted = ap (λ (o : Option Refusal). elim o as (λ _. ℕ) [ Some t ↦ 0 | None ↦ calls_of (reading i) ]) h;
   left = λ _ _. refl;
 }
 
@@ -156,9 +158,11 @@ module _ (i : Input) (e : refusal i ≡ None) where
         go Code.Err f = concluding t f
         go (Code.Stop c) f = tt
 
-    pub run_is : (o : Outcome) (t : State.ParserState) (r : Declared.Ending) {before after : List ℕ} → view_end tokens scratch t r ≡ ran
-        → o ≡ laid (length tokens) (length i.report) (pest_answer (view_end tokens scratch t r)) → Ran i o before after
-    run_is o t r h q = record {
-      is = q ∙ ap₂ (λ (n : ℕ) (a : Answer). laid n (length i.report) a) same (ap pest_answer h ∙ sym (run_alike i e)) ∙ sym (outcome_is i e);
+    pub run_is : (o : RunOutcome) (t : State.ParserState) (r : Declared.Ending) {before after : List ℕ} → view_end tokens scratch t r ≡ ran
+        → o.outcome ≡ laid (length tokens) (length i.report) (pest_answer (view_end tokens scratch t r)) → o.calls ≡ t.tracker.current
+        → Ran i o before after
+    run_is o t r h p q = record {
+      is = p ∙ laid_same same refl (ap pest_answer h ∙ sym (run_alike i e)) ∙ sym (outcome_is i e);
+      counted = q ∙ calls_left tokens scratch t r ∙ ap pest_calls h ∙ sym (run_calls i e) ∙ sym (calls_are i e);
       left = λ x d. let z : ◌≡◌ {A = ℕ} 0 1 = cc (e, d) in absurd (omega arith);
     }

@@ -27,7 +27,7 @@ use Rattle.reading.specs.Ending.{Ending, Ok, Err, Stop, stop_if, Span}
 use Rattle.reading.specs.Reading.{debt}
 use Rattle.reading.specs.Pest.{set_position, set_stack, push, pop, as_str, moved, stack_pop, stack_match_pop, stack_match_peek_slice}
 use Rattle.reading.specs.Pest.{normalize_index, normalize_end, slice, all_match}
-use Rattle.engine.specs.Areas.{span, stack_of, view, view_end}
+use Rattle.engine.specs.Areas.{span, stack_of, halted_at, view, view_end}
 use Rattle.engine.specs.Bounded.{Take, got, pushed, taken, taken_from, take_of}
 use Rattle.reading.specs.Sound.{Sound}
 use Rattle.engine.specs.StackReady.{StateReady, OutsideStack}
@@ -82,12 +82,12 @@ module _ {a b : List ℕ} {s : ParserState} (r : StateReady a s) {v : Stack} (ev
   said = e.0 ∙ ap₂ (λ (u : Stack) (n : BytePosition). pushed (span x n.0) (stack_of a u)) ev ey
 
   pub push_kept : (w : Stack) → p ≡ Some w → {t : ParserState} → t ≡ Fields.set_stack w s
-      → ((tokens : List ℕ) → Ok (view tokens b t) ≡ stop_if (leb 128 (length (stack_of a s.stack).cache)) (StackFull line) (λ _.
+      → ((tokens : List ℕ) → Ok (view tokens b t) ≡ stop_if (leb 128 (length (stack_of a s.stack).cache)) (halted_at (StackFull line) s) (λ _.
       Ok (set_stack after (view tokens a s)))) × OutsideStack a b
   push_kept w f {t} et = (λ tokens. go tokens (leb 128 (length (stack_of a s.stack).cache)) (rw f at said), e.1)
     where
       go : (tokens : List ℕ) (b₀ : Bool) → Some (stack_of b w) ≡ (if b₀ then None else Some after)
-          → Ok (view tokens b t) ≡ stop_if b₀ (StackFull line) (λ _. Ok (set_stack after (view tokens a s)))
+          → Ok (view tokens b t) ≡ stop_if b₀ (halted_at (StackFull line) s) (λ _. Ok (set_stack after (view tokens a s)))
       go tokens true q = let z : ◌≡◌ {A = ℕ} 0 1 = cc in absurd (omega arith)
       go tokens false q = let u : stack_of b w ≡ after = cc in ap Ok (view_stack r e.1 w after u et tokens)
 
@@ -102,30 +102,31 @@ module _ (text : List ℕ) (line : ℕ) (m : Pest.ParserState) where
       ∙ ap (λ (u : Pest.Stack). moved (Pest.match_string text (as_str text x) m.position) (set_stack u m)) (sym t.is))
     where
       pick : (b : Bool) → b ≡ false
-          → stop_if b (StackFull line) (λ _. moved (Pest.match_string text (as_str text x) m.position) (set_stack (pop x w.cache m.stack) m))
+          → stop_if b (Pest.halted (StackFull line) m)
+          (λ _. moved (Pest.match_string text (as_str text x) m.position) (set_stack (pop x w.cache m.stack) m))
           ≡ moved (Pest.match_string text (as_str text x) m.position) (set_stack (pop x w.cache m.stack) m)
       pick b e = rw e
 
-  step_empty : Take.empty ≡ taken m.stack → Stop (EmptyStack line) ≡ stack_pop text true line m.stack.cache m
+  step_empty : Take.empty ≡ taken m.stack → Stop (Pest.halted (EmptyStack line) m) ≡ stack_pop text true line m.stack.cache m
   step_empty e = go m.stack.cache e
     where
       pick : (b : Bool) (v : Pest.Stack) (y : Span) → Take.empty ≡ (if b then Take.full else got v y) → ⊥
       pick true v y q = let z : ◌≡◌ {A = ℕ} 0 1 = cc in omega arith
       pick false v y q = let z : ◌≡◌ {A = ℕ} 0 1 = cc in omega arith
 
-      go : (c : List Span) → Take.empty ≡ taken_from c m.stack → Stop (EmptyStack line) ≡ stack_pop text true line c m
+      go : (c : List Span) → Take.empty ≡ taken_from c m.stack → Stop (Pest.halted (EmptyStack line) m) ≡ stack_pop text true line c m
       go [] e = refl
       go (y ∷ rest) e = absurd (pick (ltb 1024 (debt (pop y rest m.stack).lengths)) (pop y rest m.stack) y e)
 
-  step_full : Take.full ≡ taken m.stack → Stop (StackFull line) ≡ stack_pop text true line m.stack.cache m
+  step_full : Take.full ≡ taken m.stack → Stop (Pest.halted (StackFull line) m) ≡ stack_pop text true line m.stack.cache m
   step_full e = go m.stack.cache e
     where
       pick : (b : Bool) (v : Pest.Stack) (y : Span) (k : Unit {0} → Ending Pest.ParserState)
-          → Take.full ≡ (if b then Take.full else got v y) → Stop (StackFull line) ≡ stop_if b (StackFull line) k
+          → Take.full ≡ (if b then Take.full else got v y) → Stop (Pest.halted (StackFull line) m) ≡ stop_if b (Pest.halted (StackFull line) m) k
       pick true v y k q = refl
       pick false v y k q = let z : ◌≡◌ {A = ℕ} 0 1 = cc in absurd (omega arith)
 
-      go : (c : List Span) → Take.full ≡ taken_from c m.stack → Stop (StackFull line) ≡ stack_pop text true line c m
+      go : (c : List Span) → Take.full ≡ taken_from c m.stack → Stop (Pest.halted (StackFull line) m) ≡ stack_pop text true line c m
       go [] e = let z : ◌≡◌ {A = ℕ} 0 1 = cc in absurd (omega arith)
       go (y ∷ rest) e =
           pick (ltb 1024 (debt (pop y rest m.stack).lengths)) (pop y rest m.stack) y
@@ -181,7 +182,7 @@ module _ (text : List ℕ) (line : ℕ) {a b : List ℕ} {s : ParserState} (r : 
   )
 
   pub popped_indebted : p ≡ None
-      → ((tokens : List ℕ) → Stop (StackFull line) ≡ stack_match_pop text true line (stack_of a s.stack).cache s.position.0
+      → ((tokens : List ℕ) → Stop (halted_at (StackFull line) s) ≡ stack_match_pop text true line (stack_of a s.stack).cache s.position.0
       (view tokens a s)) × OutsideStack a b
   popped_indebted f = (λ tokens. sym (ap (match_end b line (view tokens a s)) f) ∙ ends tokens, e.1)
 

@@ -14,14 +14,13 @@ use Rattle.matching.specs.declared.position.BytePosition.{BytePosition}
 use Rattle.matching.specs.declared.position.TokenIndex.{TokenIndex}
 use Rattle.reading.specs.declared.parser_state.Lookahead.{Lookahead}
 use Rattle.reading.specs.declared.parser_state.Atomicity.{Atomicity}
-use Rattle.reading.specs.declared.parser_state.Cause.{Cause}
 use Rattle.reading.specs.declared.parser_state.Cause.TheVariants as Cause-of
 use Rattle.reading.specs.declared.call_limit_tracker.LimitKind.TheVariants as LimitKind
 use Rattle.engine.specs.declared.attempts.Noted.{Noted}
 use Rattle.engine.specs.declared.parser_state.ParserState as Code
 use Rattle.reading.specs.declared.parser_state.Ending as Coded
 use Rattle.reading.specs.declared.parser_state.Ending.TheVariants as Coded-of
-use Rattle.reading.specs.Ending.{Ending, Ok, Err, Stop, on_ok, stop_if}
+use Rattle.reading.specs.Ending.{Halted, Ending, Ok, Err, Stop, on_ok, stop_if}
 use Rattle.reading.specs.Grammar as Grammar
 use Rattle.reading.specs.Grammar.{Exp, tree_at}
 use Rattle.reading.specs.Nullable.{nullable}
@@ -394,7 +393,7 @@ module _ (ns : List ℤ) (literals text : List ℕ) (capacity : ℕ) where
       pub rule_err : (line r : ℕ) → Opened true d j m n → {u : ParserState} → Err u ≡ starting g line n → Err u ≡ E d (Grammar.rule line r C) m
       rule_err line r o w = ap (λ (e : Ending ParserState). on_ok e (λ k. rule_over n line r (E j C k))) w ∙ rule_whole line r o
 
-      pub rule_stop : (line r : ℕ) → Opened true d j m n → {c : Cause} → Stop c ≡ starting g line n → Stop c ≡ E d (Grammar.rule line r C) m
+      pub rule_stop : (line r : ℕ) → Opened true d j m n → {c : Halted} → Stop c ≡ starting g line n → Stop c ≡ E d (Grammar.rule line r C) m
       rule_stop line r o w = ap (λ (e : Ending ParserState). on_ok e (λ k. rule_over n line r (E j C k))) w ∙ rule_whole line r o
 
       pub rule_step : (line r : ℕ) → Opened true d j m n → {u : ParserState} → Ok u ≡ starting g line n → {x : Ending ParserState} → x ≡ E j C u
@@ -420,7 +419,7 @@ module _ (ns : List ℤ) (literals text : List ℕ) (capacity : ℕ) where
       s : ParserState
       s = Pest.set_queue (n.queue ++ (Pest.Start 0 n.position ∷ [])) n
 
-      room : (c : Bool) → leb capacity (length n.queue) ≡ c → Begins n (stop_if c (Cause-of.TokensFull line) (λ _. Ok s))
+      room : (c : Bool) → leb capacity (length n.queue) ≡ c → Begins n (stop_if c (Pest.halted (Cause-of.TokensFull line) n) (λ _. Ok s))
       room true e = tt
       room false e = (
         pushed_fit g n n.queue (Pest.Start 0 n.position) f refl e,
@@ -428,7 +427,8 @@ module _ (ns : List ℤ) (literals text : List ℕ) (capacity : ℕ) where
         omega (arith, length-append n.queue (Pest.Start 0 n.position ∷ [])),
       )
 
-      go : (c : Bool) → Begins n (elim c [ false ↦ Ok n | true ↦ stop_if (leb capacity (length n.queue)) (Cause-of.TokensFull line) (λ _. Ok s) ])
+      go : (c : Bool)
+          → Begins n (elim c [ false ↦ Ok n | true ↦ stop_if (leb capacity (length n.queue)) (Pest.halted (Cause-of.TokensFull line) n) (λ _. Ok s) ])
       go false = (f, refl, omega arith)
       go true = room (leb capacity (length n.queue)) refl
 

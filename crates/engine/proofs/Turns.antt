@@ -7,8 +7,7 @@ use Prim.Native.Nat.{ℕ, zero, suc, ◌-◌, ◌≤◌, ◌<◌}
 use native.Mathlib.Omega.{arith}
 use lib.IntN.{ℤ}
 use lib.ListN.{length}
-use Rattle.reading.specs.declared.parser_state.Cause.{Cause}
-use Rattle.reading.specs.Ending.{Ending, Ok, Err, Stop}
+use Rattle.reading.specs.Ending.{Halted, Ending, Ok, Err, Stop}
 use Rattle.reading.specs.Grammar as Grammar
 use Rattle.reading.specs.Grammar.{Exp, tree_at}
 use Rattle.reading.specs.Nullable.{nullable}
@@ -102,7 +101,7 @@ module _ (ns : List ℤ) (literals text : List ℕ) (capacity j body : ℕ) wher
           → y ≡ evaluated ns literals text capacity d (Grammar.repeat B) o
       repeat_err {v} e z = z ∙ last_turn (Err v) e
 
-      pub repeat_stop : {c : Cause} → Stop c ≡ F m → Stop c ≡ evaluated ns literals text capacity d (Grammar.repeat B) o
+      pub repeat_stop : {c : Halted} → Stop c ≡ F m → Stop c ≡ evaluated ns literals text capacity d (Grammar.repeat B) o
       repeat_stop {c} e = last_turn (Stop c) e
 
 pub repeat_refused : (ns : List ℤ) (literals text : List ℕ) (capacity body : ℕ) {d : ℕ} {m n : ParserState} → Refused true d m n

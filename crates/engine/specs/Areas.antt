@@ -4,8 +4,9 @@ use Rattle.engine.specs.declared.stack.Stack.{Stack}
 use Rattle.reading.specs.declared.parser_state.Ending.{Ending}
 use Rattle.reading.specs.declared.parser_state.Ending.TheVariants as Code
 use Rattle.engine.specs.declared.parser_state.ParserState.{ParserState}
+use Rattle.reading.specs.declared.parser_state.Cause.{Cause}
 use Rattle.reading.specs.Ending as Model
-use Rattle.reading.specs.Ending.{Span, Checkpoint}
+use Rattle.reading.specs.Ending.{Halted, Span, Checkpoint}
 use Rattle.reading.specs.Pest as Pest
 use Rattle.reading.specs.Pest.{QueueableToken, Start, End}
 use Rattle.checks.specs.Tracker.{tracker_of}
@@ -84,8 +85,12 @@ view tokens scratch s = record {
   call_tracker = tracker_of s.tracker;
 }
 
+-- A stop at this state, with its counted calls.
+abbrev pub halted_at : Cause → ParserState → Halted
+halted_at c s = record { cause = c; calls = s.tracker.current }
+
 -- The ending with the state that it left.
 abbrev pub view_end : (tokens scratch : List ℕ) → ParserState → Ending → Model.Ending Pest.ParserState
 view_end tokens scratch s Code.Ok = Model.Ok (view tokens scratch s)
 view_end tokens scratch s Code.Err = Model.Err (view tokens scratch s)
-view_end tokens scratch s (Code.Stop c) = Model.Stop c
+view_end tokens scratch s (Code.Stop c) = Model.Stop (halted_at c s)

@@ -3,15 +3,19 @@ use Rattle.std.specs.Prelude.{List, ℕ, ◌*◌, ◌≤◌, length}
 use Rattle.reading.specs.declared.parser_state.Ending as Declared
 use Rattle.reading.specs.declared.parser_state.Ending.TheVariants as Code
 use Rattle.engine.specs.declared.state.Outcome as Returned
+use Rattle.engine.specs.declared.state.RunOutcome as ReturnedRun
 use Rattle.checks.specs.declared.grammar.Refused.{Refused}
 use Rattle.checks.specs.Refusals.{refusal_of}
-use Rattle.reading.specs.Outcome.{Outcome}
+use Rattle.reading.specs.Outcome.{Outcome, RunOutcome}
 use Rattle.engine.specs.declared.parser_state.ParserState as State
 use Rattle.engine.specs.Report.{Reportable}
 
 -- What a function returns, with the areas as they then stand.
 abbrev pub outcome_of : Returned.Outcome → (tokens report : List ℕ) → Outcome
 outcome_of o tokens report = record { number = o.number; place = o.place; count = o.count; tokens = tokens; report = report }
+
+abbrev pub run_outcome_of : ReturnedRun.RunOutcome → (tokens report : List ℕ) → RunOutcome
+run_outcome_of o tokens report = record { outcome = outcome_of o.outcome tokens report; calls = o.calls }
 
 -- What a refused run returns.
 abbrev pub refused_with : Refused → Returned.Outcome

@@ -5,7 +5,7 @@ use Rattle.matching.specs.declared.position.BytePosition.{BytePosition}
 use Rattle.engine.specs.declared.stack.Stack.{Stack}
 use Rattle.reading.specs.declared.parser_state.Cause.TheVariants.{StackFull}
 use Rattle.reading.specs.Ending.{Ending, Stop, Span}
-use Rattle.reading.specs.Pest.{ParserState, set_stack, moved}
+use Rattle.reading.specs.Pest.{ParserState, halted, set_stack, moved}
 use Rattle.engine.specs.Areas.{entries_at, span, stack_of}
 
 -- The entry at an index from the bottom.
@@ -23,5 +23,5 @@ index_at start end k down = if down then end - 1 - (k - start) else k
 
 -- What the code's answer says of a state m, seen at the stack and the position: a match, a miss, or no room to owe an entry.
 abbrev pub match_end : (scratch : List ℕ) → (line : ℕ) → ParserState → Option (Stack × Option BytePosition) → Ending ParserState
-match_end a line m None = Stop (StackFull line)
+match_end a line m None = Stop (halted (StackFull line) m)
 match_end a line m (Some (s, r)) = moved (match_of r) (set_stack (stack_of a s) m)

@@ -11,6 +11,9 @@ use checks::call_limit_tracker;
 pub(crate) fn enter(s: &mut ParserState, counted: bool, depth: usize) -> Option<usize>
     ensures { EnteredBy counted depth s.old s.new result }
 {
+    // Read for the check alone: of a number that is read it knows that it is of 64 bits.
+    let _current = s.tracker.current;
+    let _limit = s.tracker.limit;
     if call_limit_tracker::enter(&mut s.tracker, counted, depth) {
         Some(depth - 1)
     } else {

@@ -58,7 +58,7 @@ impl ParserState {
             },
             tracker: CallLimitTracker {
                 current: 0,
-                limit: call_limit as usize,
+                limit: call_limit as u64,
                 reached: None,
             },
             lookahead: Lookahead::None,

@@ -3,7 +3,7 @@ ghost use Rattle.std.specs.Prelude.{◌≡◌, List, ℕ, ◌≤◌, length};
 ghost use Rattle.reading.specs.Pest as Pest;
 ghost use Rattle.engine.specs.Areas.{view};
 ghost use Rattle.reading.specs.Outcome.{refusal, capacity};
-ghost use Rattle.engine.specs.Conclude.{outcome_of, refused_with};
+ghost use Rattle.engine.specs.Conclude.{run_outcome_of, refused_with};
 ghost use Rattle.reading.specs.Run.{input, Ran};
 
 use crate::conclude::conclude;
@@ -19,6 +19,13 @@ pub struct Outcome {
     pub number: u32,
     pub place: u32,
     pub count: u32,
+}
+
+// What a run returns: beside its outcome (document 02, request 5) "the counted calls entered, 0 if it never started".
+#[derive(Clone, Copy)]
+pub struct RunOutcome {
+    pub outcome: Outcome,
+    pub calls: u64,
 }
 
 impl From<Refused> for Outcome {
@@ -51,10 +58,10 @@ fn started<'a>(
     tokens: &mut [u32],
     report: &mut [u32],
     scratch: &mut [u32],
-) -> Outcome
+) -> RunOutcome
     requires { refusal (input nodes.now literals.now text.now depth_limit call_limit tokens.old report.old (length scratch.old)) ≡ None }
     ensures { Ran (input nodes.now literals.now text.now depth_limit call_limit tokens.old report.old (length scratch.old))
-        (outcome_of result tokens.new report.new) scratch.old scratch.new }
+        (run_outcome_of result tokens.new report.new) scratch.old scratch.new }
 {
     let room = capacity_of(tokens);
     let root = nodes.len() / 4;
@@ -67,7 +74,10 @@ fn started<'a>(
         room,
     };
     let r = packed_node(&setting, tokens, scratch, &mut state, depth, root);
-    conclude(tokens, scratch, report, &state, unpacked(r))
+    RunOutcome {
+        outcome: conclude(tokens, scratch, report, &state, unpacked(r)),
+        calls: state.tracker.current,
+    }
 }
 
 // Document 01's run. A refused one leaves all areas.
@@ -81,9 +91,9 @@ pub fn run<'a>(
     tokens: &mut [u32],
     report: &mut [u32],
     scratch: &mut [u32],
-) -> Outcome
+) -> RunOutcome
     ensures { Ran (input nodes.now literals.now text.now depth_limit call_limit tokens.old report.old (length scratch.old))
-        (outcome_of result tokens.new report.new) scratch.old scratch.new }
+        (run_outcome_of result tokens.new report.new) scratch.old scratch.new }
 {
     match refusal(
         nodes,
@@ -93,7 +103,10 @@ pub fn run<'a>(
         report.len(),
         scratch.len(),
     ) {
-        Err(refused) => Outcome::from(refused),
+        Err(refused) => RunOutcome {
+            outcome: Outcome::from(refused),
+            calls: 0,
+        },
         Ok(()) => started(
             nodes,
             literals,

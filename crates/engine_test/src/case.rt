@@ -1,7 +1,7 @@
 // A case: its name, node lines, text, settings and literals, with colons between them.
 use crate::nodes::nodes_of;
 use crate::show::Area;
-use engine::state::run;
+use engine::state::{RunOutcome, run};
 use std::alloc::{AllocError, Global};
 use std::io;
 use std::str::FromStr;
@@ -41,7 +41,7 @@ impl<'a> Case<'a> {
         }
     }
 
-    // The areas are full of nines before the run, so that what it writes is seen.
+    // The areas are full of nines before the run, so that what it writes is seen. The counted calls stand behind the semicolon.
     pub(crate) fn run(self, rt: &(impl Print + AllocGlobal)) -> io::Result<()> {
         let alloc = rt.alloc();
         let mut settings = self.settings.split(',');
@@ -57,7 +57,7 @@ impl<'a> Case<'a> {
         let literals = repeated(alloc, self.literals, literals_length)?;
         let mut nodes = nodes_of(alloc, self.lines)?;
         nodes.truncate(parsed(settings.next()).unwrap_or(nodes.len()));
-        let outcome = run(
+        let RunOutcome { outcome, calls } = run(
             nodes.as_slice(),
             literals.as_slice(),
             text.as_slice(),
@@ -68,7 +68,7 @@ impl<'a> Case<'a> {
             scratch.as_mut_slice(),
         );
         println!(rt;
-            "{}: {} {} {} |{} |{}",
+            "{}: {} {} {}; {calls} |{} |{}",
             self.name,
             outcome.number,
             outcome.place,

@@ -1,5 +1,6 @@
 // Runs the cases of standard input through `run`, one a line, and writes a line for each. What is to be written was worked out from
-// document 01. A line that begins with # says what the cases behind it show.
+// document 01, the counted calls by the oracle (rust/oracle) and, of the last five, by hand. A line that begins with # says what the cases
+// behind it show.
 #![tactic(auto)]
 
 mod case;

@@ -8,7 +8,7 @@ use mathlib.Core.List.{List}
 use lib.Dec.{eqb, ltb}
 use lib.IntN.{ℤ}
 use lib.ListN.{length}
-use Rattle.engine.specs.Conclude.{outcome_of}
+use Rattle.engine.specs.Conclude.{run_outcome_of}
 use Rattle.reading.proofs.Demand1 as Run
 use Rattle.sheet.specs.Sheet.{count, lines, lined, first_malformed, refused, read, reading, area_after}
 use Rattle.files.specs.SheetRun.{Given, Back, handed, Answered, SheetRun}
@@ -46,7 +46,7 @@ module _ (s : List ℕ) (before after : List ℤ) (g : Given) (b : Back) (w : Sh
         let a : Answered (read k ns) g b = subst (λ x. Answered x g b) e w.answered in
         record {
           nodes = w.area ∙ ap (λ x. area_after x before) e;
-          run = Run.demand_1 (handed ns g) g.scratch b.scratch (outcome_of b.answer b.tokens b.report) a;
+          run = Run.demand_1 (handed ns g) g.scratch b.scratch (run_outcome_of b.answer b.tokens b.report) a;
         };
   }
 

@@ -14,7 +14,7 @@ use Rattle.reading.specs.declared.parser_state.Cause.{Cause}
 use Rattle.reading.specs.Ending.{Ending, Ok, Err, Stop}
 use Rattle.reading.specs.Forest.{Token, tokens}
 use Rattle.reading.specs.Reading.{State}
-use Rattle.reading.specs.Outcome.{Input, Refusal, refusal, reading, Answer, answer, of_limit, of_tokens, report_of, of_failure, ascending}
+use Rattle.reading.specs.Outcome.{Input, Refusal, refusal, reading, Answer, answer, of_cause, of_limit, of_tokens, report_of, of_failure, ascending}
 use Rattle.reading.specs.Outcome.{laid, started, refused, Outcome, outcome}
 use Rattle.reading.proofs.Exact.{length_numbers}
 use Rattle.sheet.specs.Area.{over}
@@ -42,6 +42,12 @@ module _ (n m : ℕ) where
   limit_counted LimitKind.Call f = by_tokens (omega arith)
   limit_counted LimitKind.Stack f = by_tokens (omega arith)
 
+  stop_counted : (c : Cause) → Counted (laid n m (of_cause c))
+  stop_counted (Cause.EmptyStack l) = by_tokens (omega arith)
+  stop_counted (Cause.TokensFull l) = by_tokens (omega arith)
+  stop_counted (Cause.StackFull l) = by_tokens (omega arith)
+  stop_counted (Cause.AttemptsFull l) = by_tokens (omega arith)
+
   laid_counted : (r : Ending State) → Counted (laid n m (answer r))
   laid_counted (Ok s) = go s.tracker.cause
     where
@@ -57,10 +63,7 @@ module _ (n m : ℕ) where
       ]))
       go None = in_report s.attempts.furthest (ascending s.attempts.positive) (ascending s.attempts.negative)
       go (Some k) = limit_counted k s.attempts.furthest
-  laid_counted (Stop (Cause.EmptyStack l)) = by_tokens (omega arith)
-  laid_counted (Stop (Cause.TokensFull l)) = by_tokens (omega arith)
-  laid_counted (Stop (Cause.StackFull l)) = by_tokens (omega arith)
-  laid_counted (Stop (Cause.AttemptsFull l)) = by_tokens (omega arith)
+  laid_counted (Stop h) = stop_counted h.cause
 
 counted : (i : Input) → Counted (outcome i)
 unfolding outcome
@@ -79,26 +82,26 @@ few o (by_tokens h) t r = omega arith
 few o (by_report h) t r = omega arith
 
 -- what came back is what document 01 answers
-answer_is : (x : Sheet.Reading) (g : Given) (b : Back) → Answered x g b → outcome_of b.answer b.tokens b.report ≡ answer_to x g
+answer_is : (x : Sheet.Reading) (g : Given) (b : Back) → Answered x g b → outcome_of b.answer.outcome b.tokens b.report ≡ answer_to x g
 answer_is (Sheet.refused n p) g b a = rw (a.0, a.1, a.2)
 answer_is (Sheet.read k ns) g b a = a.is
 
 module _
     (s l t before after : List ℕ) (r : ℕ) (nodes : List ℤ) (b : Back) (ran : SheetRun s (replicate node_area (pos 0)) nodes (given l t) b)
     (in_t : length b.tokens ≡ 16380) (in_r : length b.report ≡ 515)
-    (w : ListingWritten b.answer b.tokens b.report before after r) where
-  back_is : outcome_of b.answer b.tokens b.report ≡ answer_to (Sheet.reading s node_area) (given l t)
+    (w : ListingWritten b.answer.outcome b.tokens b.report before after r) where
+  back_is : outcome_of b.answer.outcome b.tokens b.report ≡ answer_to (Sheet.reading s node_area) (given l t)
   back_is =
       answer_is (Sheet.reading s node_area) (given l t) b
       (subst (λ (n : ℕ). Answered (Sheet.reading s n) (given l t) b) (length-replicate node_area (pos 0)) ran.answered)
 
-  listing_is : listing b.answer b.tokens b.report ≡ listing_of s l t
+  listing_is : listing b.answer.outcome b.tokens b.report ≡ listing_of s l t
   unfolding listing_of
   listing_is = ap printed back_is
 
   pub listed : Listed s l t before after r
   listed =
-      let c : Counted (outcome_of b.answer b.tokens b.report) =
+      let c : Counted (outcome_of b.answer.outcome b.tokens b.report) =
       subst Counted (sym back_is) (answer_counted (Sheet.reading s node_area) (given l t)) in
       record {
         written = rw (← listing_is) w.written;

@@ -13,12 +13,16 @@ use Rattle.sheet.specs.Sheet.{count, lines, numbers, Reading, refused, read, rea
 use Rattle.files.specs.SheetRun.{Given, Back, Answered, SheetRun}
 use Rattle.sheet.proofs.SheetLaws.{lines_numbers, lined_odd, test_1, passed}
 
+-- what comes back where no run starts: the answer of the sheet reading, no counted call, and the areas as they were
+abbrev not_run : Outcome → Given → Back
+not_run r g = record { answer = record { outcome = r; calls = 0 }; tokens = g.tokens; report = g.report; scratch = g.scratch }
+
 module _ (s : List ℕ) (a b : List ℤ) (r : Outcome) (g : Given) (w : SheetRead s a b r) where
-  pub run_refused : (r.number ≡ 0 → ⊥) → SheetRun s a b g (record { answer = r; tokens = g.tokens; report = g.report; scratch = g.scratch })
+  pub run_refused : (r.number ≡ 0 → ⊥) → SheetRun s a b g (not_run r g)
   run_refused z = record { answered = go (reading s (length a)) w.answer; area = w.area }
     where
-      go : (x : Reading) → r ≡ outcome x → Answered x g (record { answer = r; tokens = g.tokens; report = g.report; scratch = g.scratch })
-      go (refused n p) e = (e, refl, refl, refl)
+      go : (x : Reading) → r ≡ outcome x → Answered x g (not_run r g)
+      go (refused n p) e = (ap (λ y. record { outcome = y; calls = 0 }) e, refl, refl, refl)
       go (read k ns) e = absurd (z (ap (λ y. y.number) e))
 
   module _ (z : r.number ≡ 0) where

@@ -1,7 +1,7 @@
 -- Demand 1, in the customer's words, of a sheet's grammar over a text: refused by 1 to 3 or by 4 to 9 with the areas left, or run to an
 -- end.
 use Rattle.std.specs.Prelude.{ℕ, ◌≤◌, ◌≡◌, List, ℤ, length}
-use Rattle.engine.specs.Conclude.{outcome_of}
+use Rattle.engine.specs.Conclude.{run_outcome_of}
 use Rattle.reading.specs.Demand1 as Run
 use Rattle.sheet.specs.Area.{over}
 use Rattle.sheet.specs.Sheet.{refused, read, reading}
@@ -11,7 +11,7 @@ use Rattle.files.specs.SheetRun.{Given, Back, handed}
 pub record SheetRefused (number place : ℕ) (before after : List ℤ) (g : Given) (b : Back) : Type 0 where
   pub from : 1 ≤ number
   pub to : number ≤ 3
-  pub answer : b.answer ≡ record { number = number; place = place; count = 0 }
+  pub answer : b.answer ≡ record { outcome = record { number = number; place = place; count = 0 }; calls = 0 }
   pub nodes : after ≡ before
   pub tokens : b.tokens ≡ g.tokens
   pub report : b.report ≡ g.report
@@ -21,7 +21,7 @@ pub record SheetRefused (number place : ℕ) (before after : List ℤ) (g : Give
 -- and scratch as they were, or "accepted and run to an end" in 0 or 10 to 16.
 pub record SheetAccepted (ns before after : List ℤ) (g : Given) (b : Back) : Type 0 where
   pub nodes : after ≡ over ns before
-  pub run : Run.Demand1 (handed ns g) (outcome_of b.answer b.tokens b.report) g.scratch b.scratch
+  pub run : Run.Demand1 (handed ns g) (run_outcome_of b.answer b.tokens b.report) g.scratch b.scratch
 
 pub record Demand1 (sheet : List ℕ) (before after : List ℤ) (g : Given) (b : Back) : Type 0 where
   pub refused : (n p : ℕ) → reading sheet (length before) ≡ refused n p → SheetRefused n p before after g b

@@ -1,7 +1,7 @@
 -- A sheet's grammar over a text. Document 01, "Stops and refusals": "Sheet reading tests 1 to 3, a run 4 to 9, in order".
 use Rattle.std.specs.Prelude.{ℕ, ◌≡◌, List, ℤ, length}
-use Rattle.engine.specs.declared.state.Outcome.{Outcome}
-use Rattle.engine.specs.Conclude.{outcome_of}
+use Rattle.engine.specs.declared.state.RunOutcome.{RunOutcome}
+use Rattle.engine.specs.Conclude.{run_outcome_of}
 use Rattle.reading.specs.Outcome.{Input}
 use Rattle.reading.specs.Run.{input, Ran}
 use Rattle.sheet.specs.Sheet.{Reading, refused, read, reading, outcome, area_after}
@@ -16,9 +16,9 @@ pub record Given : Type 0 where
   pub report : List ℕ
   pub scratch : List ℕ
 
--- What comes back: number, place, count, and those areas as they stand at the end.
+-- What comes back: number, place, count, the counted calls, and those areas as they stand at the end.
 pub record Back : Type 0 where
-  pub answer : Outcome
+  pub answer : RunOutcome
   pub tokens : List ℕ
   pub report : List ℕ
   pub scratch : List ℕ
@@ -27,11 +27,11 @@ pub record Back : Type 0 where
 abbrev pub handed : List ℤ → Given → Input
 handed ns g = input ns g.literals g.text g.depth_limit g.call_limit g.tokens g.report (length g.scratch)
 
--- A refused sheet is answered by its own number, and leaves all areas. A good one is run.
+-- A refused sheet is answered by its own number, counts no call, and leaves all areas. A good one is run.
 abbrev pub Answered : Reading → Given → Back → Type 0
 Answered (refused n p) g b =
-    (b.answer ≡ outcome (refused n p)) × (b.tokens ≡ g.tokens) × (b.report ≡ g.report) × (b.scratch ≡ g.scratch)
-Answered (read k ns) g b = Ran (handed ns g) (outcome_of b.answer b.tokens b.report) g.scratch b.scratch
+    (b.answer ≡ record { outcome = outcome (refused n p); calls = 0 }) × (b.tokens ≡ g.tokens) × (b.report ≡ g.report) × (b.scratch ≡ g.scratch)
+Answered (read k ns) g b = Ran (handed ns g) (run_outcome_of b.answer b.tokens b.report) g.scratch b.scratch
 
 -- What `run_sheet` promises: the answer, the areas of a run, and the node area.
 pub record SheetRun (sheet : List ℕ) (before after : List ℤ) (g : Given) (b : Back) : Type 0 where

@@ -34,5 +34,5 @@ pub fn list_texts<'a>(sheet: &[u8], literals: &'a [u8], text: &'a [u8], out: &mu
         &mut report,
         &mut scratch,
     );
-    write_listing(o, &tokens, &report, out)
+    write_listing(o.outcome, &tokens, &report, out)
 }

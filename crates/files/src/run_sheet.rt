@@ -1,11 +1,12 @@
 // A sheet's grammar over a text: the sheet is read first, and the nodes that it gave are run.
 ghost use Rattle.files.specs.SheetRun.{SheetRun};
 
-use engine::state::{Outcome, run};
+use engine::state::{RunOutcome, run};
 use sheet::sheet::read_sheet;
 
-// Document 01's tests and stops in order, 1 to 16. A refused sheet leaves all areas, a refused run those of the run.
-// Kept: document 01 lends each area on its own and answers number, place and count; so does C's interface, which these follow.
+// Document 01's tests and stops in order, 1 to 16. A refused sheet leaves all areas, a refused run those of the run; neither counts a call.
+// Kept: document 01 lends each area on its own and answers number, place and count, document 02 the counted calls beside them; so does C's
+// interface, which these follow.
 pub fn run_sheet<'a>(
     sheet: &[u8],
     literals: &'a [u8],
@@ -16,7 +17,7 @@ pub fn run_sheet<'a>(
     tokens: &mut [u32],
     report: &mut [u32],
     scratch: &mut [u32],
-) -> Outcome
+) -> RunOutcome
     ensures { SheetRun sheet.now nodes.old nodes.new
         (record {
           literals = literals.now;
@@ -31,7 +32,10 @@ pub fn run_sheet<'a>(
 {
     let read = read_sheet(sheet, nodes);
     if read.number != 0 {
-        return read;
+        return RunOutcome {
+            outcome: read,
+            calls: 0,
+        };
     }
     let n = read.count as usize * 4;
     run(

@@ -3,12 +3,12 @@
 #![tactic(auto)]
 
 ghost use Rattle.std.specs.Prelude.{◌≡◌, length};
-ghost use Rattle.engine.specs.Conclude.{outcome_of};
+ghost use Rattle.engine.specs.Conclude.{run_outcome_of};
 ghost use Rattle.reading.specs.Run.{input, Ran};
 ghost use Rattle.sheet.specs.Sheet.{SheetRead};
-ghost use Rattle.parser_core.specs.Returned.{returned};
+ghost use Rattle.parser_core.specs.Returned.{returned, run_returned};
 
-use engine::state::{Outcome, run};
+use engine::state::{Outcome, RunOutcome, run};
 use sheet::sheet::read_sheet;
 
 // The engine's `Outcome`, laid out as C does: number, place, count. C goes by position, so the fields have positions and no names:
@@ -25,6 +25,20 @@ impl From<Outcome> for ParserCoreOutcome {
     }
 }
 
+// The engine's `RunOutcome` likewise: number, place, count, and behind them the counted calls. `run_returned` says which is which.
+#[repr(C)]
+#[derive(Clone, Copy)]
+pub struct ParserCoreRunOutcome(pub u32, pub u32, pub u32, pub u64);
+
+impl From<RunOutcome> for ParserCoreRunOutcome {
+    ghost from_gives = { λ o r. run_returned r ≡ o };
+
+    fn from(o: RunOutcome) -> Self {
+        let answer = o.outcome;
+        ParserCoreRunOutcome(answer.number, answer.place, answer.count, o.calls)
+    }
+}
+
 // Kept: each input and each area on its own, and once more in parser_core_c: the C interface.
 #[unsafe(no_mangle)]
 pub extern "C" fn parser_core_run<'a>(
@@ -36,9 +50,9 @@ pub extern "C" fn parser_core_run<'a>(
     tokens: &mut [u32],
     report: &mut [u32],
     scratch: &mut [u32],
-) -> ParserCoreOutcome
+) -> ParserCoreRunOutcome
     ensures { Ran (input nodes.now literals.now text.now depth_limit call_limit tokens.old report.old (length scratch.old))
-        (outcome_of (returned result) tokens.new report.new) scratch.old scratch.new }
+        (run_outcome_of (run_returned result) tokens.new report.new) scratch.old scratch.new }
 {
     run(
         nodes,

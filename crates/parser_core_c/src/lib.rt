@@ -5,12 +5,12 @@
 #![tactic(auto)]
 
 ghost use Rattle.std.specs.Prelude.{length};
-ghost use Rattle.engine.specs.Conclude.{outcome_of};
+ghost use Rattle.engine.specs.Conclude.{run_outcome_of};
 ghost use Rattle.reading.specs.Run.{input, Ran};
 ghost use Rattle.sheet.specs.Sheet.{SheetRead};
-ghost use Rattle.parser_core.specs.Returned.{returned};
+ghost use Rattle.parser_core.specs.Returned.{returned, run_returned};
 
-use parser_core::ParserCoreOutcome;
+use parser_core::{ParserCoreOutcome, ParserCoreRunOutcome};
 
 #[unsafe(no_mangle)]
 pub extern "C" fn parser_core_run<'a>(
@@ -22,9 +22,9 @@ pub extern "C" fn parser_core_run<'a>(
     tokens: &mut [u32],
     report: &mut [u32],
     scratch: &mut [u32],
-) -> ParserCoreOutcome
+) -> ParserCoreRunOutcome
     ensures { Ran (input nodes.now literals.now text.now depth_limit call_limit tokens.old report.old (length scratch.old))
-        (outcome_of (returned result) tokens.new report.new) scratch.old scratch.new }
+        (run_outcome_of (run_returned result) tokens.new report.new) scratch.old scratch.new }
 {
     parser_core::parser_core_run(
         nodes,
@@ -57,9 +57,9 @@ fn run_by_position<'a>(
     tokens: &mut [u32],
     report: &mut [u32],
     scratch: &mut [u32],
-) -> ParserCoreOutcome
+) -> ParserCoreRunOutcome
     ensures { Ran (input nodes.now literals.now text.now depth_limit call_limit tokens.old report.old (length scratch.old))
-        (outcome_of (returned result) tokens.new report.new) scratch.old scratch.new }
+        (run_outcome_of (run_returned result) tokens.new report.new) scratch.old scratch.new }
 {
     parser_core_run(
         nodes,

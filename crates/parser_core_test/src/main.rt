@@ -4,21 +4,30 @@
 #![tactic(auto)]
 
 ghost use Rattle.std.specs.Prelude.{length};
-ghost use Rattle.engine.specs.Conclude.{outcome_of};
+ghost use Rattle.engine.specs.Conclude.{run_outcome_of};
 ghost use Rattle.reading.specs.Run.{input, Ran};
-ghost use Rattle.parser_core.specs.Returned.{returned};
+ghost use Rattle.parser_core.specs.Returned.{run_returned};
 
-use parser_core::{ParserCoreOutcome, parser_core_read_sheet, parser_core_run};
+use parser_core::{
+    ParserCoreOutcome, ParserCoreRunOutcome, parser_core_read_sheet, parser_core_run,
+};
 use std::{fmt, io};
 
 // An outcome by the places of its fields, as C reads it.
 #[derive(Clone, Copy)]
-struct ByPosition(ParserCoreOutcome);
+struct ByPosition<T>(T);
 
-impl fmt::Display for ByPosition {
+impl fmt::Display for ByPosition<ParserCoreOutcome> {
     fn fmt<W: fmt::Write>(&self, f: &mut fmt::Formatter<W>) -> fmt::Result {
         let ByPosition(ParserCoreOutcome(number, place, count)) = *self;
         write!(f, "{number} {place} {count}")
+    }
+}
+
+impl fmt::Display for ByPosition<ParserCoreRunOutcome> {
+    fn fmt<W: fmt::Write>(&self, f: &mut fmt::Formatter<W>) -> fmt::Result {
+        let ByPosition(ParserCoreRunOutcome(number, place, count, calls)) = *self;
+        write!(f, "{number} {place} {count} {calls}")
     }
 }
 
@@ -46,9 +55,9 @@ fn run_by_position<'a>(
     tokens: &mut [u32],
     report: &mut [u32],
     scratch: &mut [u32],
-) -> ParserCoreOutcome
+) -> ParserCoreRunOutcome
     ensures { Ran (input nodes.now literals.now text.now depth_limit call_limit tokens.old report.old (length scratch.old))
-        (outcome_of (returned result) tokens.new report.new) scratch.old scratch.new }
+        (run_outcome_of (run_returned result) tokens.new report.new) scratch.old scratch.new }
 {
     parser_core_run(
         nodes,

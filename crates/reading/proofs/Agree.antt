@@ -18,9 +18,9 @@ use Rattle.reading.specs.Grammar.{Exp}
 use Rattle.reading.specs.Forest.{Forest, Token, tokens}
 use Rattle.reading.specs.Reading as Reading
 use Rattle.reading.specs.Reading.{Setting, State, initial}
-use Rattle.reading.specs.Outcome.{Answer, answer, of_tokens, of_limit, of_failure, insert, ascending}
+use Rattle.reading.specs.Outcome.{Answer, answer, calls_of, of_tokens, of_limit, of_failure, insert, ascending}
 use Rattle.reading.specs.Answer.{tokens_of}
-use Rattle.reading.specs.Answer.{pest_answer, answer_to}
+use Rattle.reading.specs.Answer.{pest_answer, pest_calls, answer_to}
 use Rattle.reading.specs.Pest as Pest
 use Rattle.reading.specs.Pest.{ParserState, QueueableToken, Start, End, Result, Pairs, CustomError, ParsingError, Panic, sort_in, sort}
 use Rattle.reading.specs.Pest.{dedup_in, dedup, state}
@@ -125,6 +125,12 @@ answers r m (sim_ok s p i k) = go s.tracker.cause
 answers r m (sim_err s p i k) = refl
 answers r m (sim_stop c) = refl
 
+calls_same : {l : Lookahead} {a : Atomicity} {f : Forest} (r : Ending State) (m : Ending ParserState) → Sim top [] l a f r m
+    → calls_of r ≡ pest_calls m
+calls_same r m (sim_ok s p i k) = refl
+calls_same r m (sim_err s p i k) = refl
+calls_same r m (sim_stop c) = refl
+
 module _ (g : Setting) (set : ℕ → Bool) (w : Tested g set) (u : Utf8 g.text) (depth limit : ℕ) (e : Exp) (y : Literals e) (z : Steady set e) where
   -- A run and pest with the stops end alike.
   pub run_sim : Sim top [] (initial limit).lookahead (initial limit).atomicity (initial limit).siblings
@@ -134,6 +140,9 @@ module _ (g : Setting) (set : ℕ → Bool) (w : Tested g set) (u : Utf8 g.text)
 
   pub alike : answer (Reading.eval g depth e (initial limit)) ≡ pest_answer (Pest.eval g true depth e (Pest.new limit))
   alike = answers _ _ run_sim
+
+  pub calls_alike : calls_of (Reading.eval g depth e (initial limit)) ≡ pest_calls (Pest.eval g true depth e (Pest.new limit))
+  calls_alike = calls_same _ _ run_sim
 
 -- ── `state` ──
 -- An ending that is no stop: a run that "stops for no added reason (13 to 16)".

@@ -8,7 +8,6 @@ use native.Mathlib.Omega.{arith}
 use lib.Dec.{leb}
 use lib.ListN.{length}
 use Rattle.matching.specs.Utf8.{within}
-use Rattle.reading.specs.declared.parser_state.Cause.{Cause}
 use Rattle.reading.specs.declared.call_limit_tracker.LimitKind.{LimitKind}
 use Rattle.reading.specs.Ending.{Ending, Ok, Err, Stop}
 use Rattle.reading.specs.Grammar.{misfit}
@@ -16,11 +15,12 @@ use Rattle.reading.specs.Nullable.{still_repeat}
 use Rattle.reading.specs.Forest.{tokens}
 use Rattle.reading.specs.Reading.{State}
 use Rattle.reading.specs.Outcome.{Input, Refusal, refuse, unless, good_text, first_of, tests, refusal, reading, Answer, answer, of_limit}
-use Rattle.reading.specs.Outcome.{of_tokens, of_failure, ascending, Outcome, refused, started, outcome}
+use Rattle.reading.specs.Outcome.{of_cause, of_tokens, of_failure, ascending, Outcome, refused, started, outcome, RunOutcome, calls_of, counted_calls}
 use Rattle.reading.specs.Run.{Ran}
 use Rattle.reading.specs.Demand1.{Refused, Ended, with_tokens, without, Demand1}
 use Rattle.reading.proofs.Rows.{◌▹◌}
-use Rattle.reading.proofs.Runs.{run_bounded, outcome_is}
+use Rattle.reading.proofs.AnswerLaws.{stop_number}
+use Rattle.reading.proofs.Runs.{run_bounded, outcome_is, calls_are}
 
 -- ── Refused ──
 abbrev Numbered : List (Option Refusal) → Type 0
@@ -68,36 +68,41 @@ ended (Err s) = go s.tracker.cause
     ]).number
     go None = without 10 (omega arith) (omega arith)
     go (Some k) = limit_ended k s.attempts.furthest
-ended (Stop (Cause.EmptyStack l)) = without 13 (omega arith) (omega arith)
-ended (Stop (Cause.TokensFull l)) = without 14 (omega arith) (omega arith)
-ended (Stop (Cause.StackFull l)) = without 15 (omega arith) (omega arith)
-ended (Stop (Cause.AttemptsFull l)) = without 16 (omega arith) (omega arith)
+ended (Stop h) = without (of_cause h.cause).number (omega (arith, (stop_number h.cause).0)) (stop_number h.cause).1
 
-module _ (i : Input) (before after : List ℕ) where
+module _ (i : Input) where
   refused_is : (r : Refusal) → refusal i ≡ Some r → outcome i ≡ refused i r
   unfolding outcome
   refused_is r e = ap (λ (o : Option Refusal). elim o as (λ _. Outcome) [ Some x ↦ refused i x | None ↦ started i (answer (reading i)) ]) e
 
-  as_refused : (r : Refusal) → refusal i ≡ Some r → after ≡ before → Refused i r (outcome i) before after
-  as_refused r e left = record {
-    from = (refusal_numbered i r e).0;
-    to = (refusal_numbered i r e).1;
-    number = ap (λ (o : Outcome). o.number) (refused_is r e);
-    place = ap (λ (o : Outcome). o.place) (refused_is r e);
-    count = ap (λ (o : Outcome). o.count) (refused_is r e);
-    tokens = ap (λ (o : Outcome). o.tokens) (refused_is r e);
-    report = ap (λ (o : Outcome). o.report) (refused_is r e);
-    scratch = left;
-  }
+  no_calls : (r : Refusal) → refusal i ≡ Some r → counted_calls i ≡ 0
+  unfolding counted_calls
+  no_calls r e = ap (λ (o : Option Refusal). elim o as (λ _. ℕ) [ Some x ↦ 0 | None ↦ calls_of (reading i) ]) e
 
-  of_outcome : ((r : Refusal) → refusal i ≡ Some r → after ≡ before) → Demand1 i (outcome i) before after
-  of_outcome left = record {
-    refused = λ r e. as_refused r e (left r e);
-    accepted = λ e. subst (λ (o : Outcome). Ended o.number) (sym (outcome_is i e)) (ended (reading i));
-    full = λ e c q. outcome_is i e ∙ ap (λ (r : Ending State). started i (answer r)) q;
+-- Demand 1, of any value that keeps `run`'s promise.
+module _ (i : Input) (before after : List ℕ) (o : RunOutcome) (a : Ran i o before after) where
+  as_refused : (r : Refusal) → refusal i ≡ Some r → Refused i r o before after
+  as_refused r e =
+      let is : o.outcome ≡ refused i r = a.is ∙ refused_is i r e in
+      record {
+        from = (refusal_numbered i r e).0;
+        to = (refusal_numbered i r e).1;
+        number = ap (λ (x : Outcome). x.number) is;
+        place = ap (λ (x : Outcome). x.place) is;
+        count = ap (λ (x : Outcome). x.count) is;
+        calls = a.counted ∙ no_calls i r e;
+        tokens = ap (λ (x : Outcome). x.tokens) is;
+        report = ap (λ (x : Outcome). x.report) is;
+        scratch = a.left r e;
+      }
+
+  as_started : refusal i ≡ None → o.outcome ≡ started i (answer (reading i))
+  as_started e = a.is ∙ outcome_is i e
+
+  pub demand_1 : Demand1 i o before after
+  demand_1 = record {
+    refused = as_refused;
+    accepted = λ e. subst (λ (x : Outcome). Ended x.number) (sym (as_started e)) (ended (reading i));
+    full = λ e h q. (as_started e ∙ ap (λ (r : Ending State). started i (answer r)) q, a.counted ∙ calls_are i e ∙ ap calls_of q);
     within = run_bounded i;
   }
-
-  -- Demand 1, of any value that keeps `run`'s promise.
-  pub demand_1 : (o : Outcome) → Ran i o before after → Demand1 i o before after
-  demand_1 o a = subst (λ (x : Outcome). Demand1 i x before after) (sym a.is) (of_outcome a.left)

@@ -7,25 +7,22 @@ use Rattle.std.specs.Prelude.{Option, None, Some}
 use Prim.Native.Nat.{ℕ, ◌≤◌}
 use native.Mathlib.Omega.{arith}
 use lib.ListN.{drop}
-use Rattle.reading.specs.declared.parser_state.Cause.{Cause}
 use Rattle.reading.specs.Ending.{Ending, Ok, Err, Stop}
 use Rattle.reading.specs.Grammar.{root, plain}
 use Rattle.reading.specs.Reading.{State}
-use Rattle.reading.specs.Outcome.{Input, refusal, setting, reading, answer, started, Outcome}
+use Rattle.reading.specs.Outcome.{Input, refusal, setting, reading, answer, started, RunOutcome}
 use Rattle.reading.specs.Ford.{peg, rules_of, characters_of}
 use Rattle.reading.specs.Run.{Ran}
 use Rattle.reading.specs.Demand2.{Relates, Consumes, Fails, up_to, MatchOrFailure, Demand2}
 use Rattle.reading.proofs.FordLaws.{ford_unique}
+use Rattle.reading.proofs.AnswerLaws.{stop_number}
 use Rattle.reading.proofs.Agree.{Runs, runs_ok, runs_err}
 use Rattle.reading.proofs.Runs.{agree, loops_alike, ford_0, ford_10, left_over, split_text, outcome_is}
 
 no_stop : (r : Ending State) → (answer r).number ≤ 12 → Runs r
 no_stop (Ok s) h = runs_ok s
 no_stop (Err s) h = runs_err s
-no_stop (Stop (Cause.EmptyStack l)) h = absurd (omega arith)
-no_stop (Stop (Cause.TokensFull l)) h = absurd (omega arith)
-no_stop (Stop (Cause.StackFull l)) h = absurd (omega arith)
-no_stop (Stop (Cause.AttemptsFull l)) h = absurd (omega arith)
+no_stop (Stop x) h = absurd (omega (arith, (stop_number x.cause).0))
 
 module _ (i : Input) (e : refusal i ≡ None) where
   one_answer : (x y : Option (List ℕ)) → Relates i x → Relates i y → x ≡ y
@@ -83,5 +80,5 @@ module _ (i : Input) (e : refusal i ≡ None) where
   }
 
   -- Demand 2, of any value that keeps `run`'s promise, started.
-  pub demand_2 : (o : Outcome) {before after : List ℕ} → Ran i o before after → Demand2 i o
+  pub demand_2 : (o : RunOutcome) {before after : List ℕ} → Ran i o before after → Demand2 i o.outcome
   demand_2 o a = subst (Demand2 i) (sym (a.is ∙ outcome_is i e)) of_started

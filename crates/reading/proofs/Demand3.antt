@@ -6,18 +6,18 @@ use Rattle.std.specs.Prelude.{Option, None, Some}
 use Prim.Native.Nat.{ℕ, ◌*◌, ◌≤◌}
 use native.Mathlib.Omega.{arith}
 use lib.ListN.{length, take}
-use Rattle.reading.specs.declared.parser_state.Cause.{Cause}
 use Rattle.reading.specs.declared.call_limit_tracker.LimitKind.{LimitKind}
 use Rattle.reading.specs.Ending.{Ending, Ok, Err, Stop}
 use Rattle.reading.specs.Forest.{Forest, tokens}
 use Rattle.reading.specs.Reading.{State, Attempts}
-use Rattle.reading.specs.Outcome.{Input, refusal, reading, Answer, answer, of_limit, of_tokens, of_failure, ascending, report_of, numbers}
-use Rattle.reading.specs.Outcome.{filled, Outcome, outcome}
+use Rattle.reading.specs.Outcome.{Input, refusal, reading, Answer, answer, of_cause, of_limit, of_tokens, of_failure, ascending, report_of, numbers}
+use Rattle.reading.specs.Outcome.{filled, Outcome, outcome, RunOutcome}
 use Rattle.reading.specs.Run.{Ran}
 use Rattle.reading.specs.Demand1.{Within, bounded_err}
 use Rattle.reading.specs.Demand3.{Parses, parses, Fails, fails, SameSet, token_list, error_report, Each, Demand3}
 use Rattle.reading.proofs.Exact.{tokens_area_exact, report_exact, Few}
 use Rattle.reading.proofs.Accepted as Accepted
+use Rattle.reading.proofs.AnswerLaws.{stop_number}
 use Rattle.reading.proofs.Runs.{run_bounded, outcome_is}
 
 -- ── An ending and its number ──
@@ -46,10 +46,7 @@ numbered (Err s) = go s.tracker.cause refl
         ]).number
     go None e = is_10 s.attempts (fails s e)
     go (Some k) e = limit_number (Err s) k s.attempts.furthest
-numbered (Stop (Cause.EmptyStack l)) = is_other 13 (omega arith)
-numbered (Stop (Cause.TokensFull l)) = is_other 14 (omega arith)
-numbered (Stop (Cause.StackFull l)) = is_other 15 (omega arith)
-numbered (Stop (Cause.AttemptsFull l)) = is_other 16 (omega arith)
+numbered (Stop h) = is_other (of_cause h.cause).number (omega (arith, (stop_number h.cause).0))
 
 answer_parsed : (r : Ending State) (f : Forest) → Parses r f → answer r ≡ of_tokens (tokens f)
 answer_parsed r f (parses s e) = rw e
@@ -151,5 +148,5 @@ module _ (i j : Input) (e : refusal i ≡ None) (d : refusal j ≡ None) where
   both = record { first = each i e; second = each j d; same_tokens = same_tokens; same_reports = same_reports }
 
   -- Demand 3, of any two values that keep `run`'s promise.
-  pub demand_3 : (o p : Outcome) {b₁ a₁ b₂ a₂ : List ℕ} → Ran i o b₁ a₁ → Ran j p b₂ a₂ → Demand3 i j o p
-  demand_3 o p a b = subst (λ (x : Outcome). Demand3 i j x p) (sym a.is) (subst (λ (x : Outcome). Demand3 i j (outcome i) x) (sym b.is) both)
+  pub demand_3 : (o p : RunOutcome) {b₁ a₁ b₂ a₂ : List ℕ} → Ran i o b₁ a₁ → Ran j p b₂ a₂ → Demand3 i j o.outcome p.outcome
+  demand_3 o p a b = subst (λ (x : Outcome). Demand3 i j x p.outcome) (sym a.is) (subst (λ (x : Outcome). Demand3 i j (outcome i) x) (sym b.is) both)

@@ -22,7 +22,7 @@ use Rattle.reading.specs.declared.parser_state.Atomicity.{Atomicity}
 use Rattle.reading.specs.declared.parser_state.Atomicity.TheVariants.{Atomic, CompoundAtomic, NonAtomic}
 use Rattle.reading.specs.declared.parser_state.Cause.{Cause}
 use Rattle.reading.specs.declared.call_limit_tracker.LimitKind.TheVariants as LimitKind
-use Rattle.reading.specs.Ending.{Ending, Ok, Err, Stop, on_ok, on_err, stop_if, Span, Checkpoint, is_negative, is_none, is_atomic}
+use Rattle.reading.specs.Ending.{Halted, Ending, Ok, Err, Stop, on_ok, on_err, stop_if, Span, Checkpoint, is_negative, is_none, is_atomic}
 use Rattle.reading.specs.Grammar as Grammar
 use Rattle.reading.specs.Grammar.{Exp, RuleLine}
 use Rattle.reading.specs.Reading.{Setting, most_entries, most_debt, most_attempts, most_rounds, debt}
@@ -46,7 +46,7 @@ pub record After (g : Setting) (p : ℕ) (l : Lookahead) (a : Atomicity) (marks 
 pub data Keeps (g : Setting) (b : Bool) (p : ℕ) (l : Lookahead) (a : Atomicity) (marks held : ℕ) : Ending ParserState → Type 0 where
   keeps_ok : (n : ParserState) → After g p l a marks held n → (b ≡ false → p < n.position) → Keeps g b p l a marks held (Ok n)
   keeps_err : (n : ParserState) → After g p l a marks held n → Keeps g b p l a marks held (Err n)
-  keeps_stop : (c : Cause) → Keeps g b p l a marks held (Stop c)
+  keeps_stop : (c : Halted) → Keeps g b p l a marks held (Stop c)
 
 abbrev pub KeepsFrom : Setting → Bool → ParserState → Ending ParserState → Type 0
 KeepsFrom g b m r = Keeps g b m.position m.lookahead m.atomicity (length m.stack.lengths) (length m.queue) r
@@ -456,7 +456,7 @@ module _ (g : Setting) where
       room : (n : ParserState) → After g m.position m.lookahead m.atomicity (length m.stack.lengths) (length m.queue) n
           → (b ≡ false → m.position < n.position)
           → (c : Bool) → leb most_entries (length n.stack.cache) ≡ c
-          → KeepsFrom g b m (stop_if c (Cause.StackFull line) (λ _.
+          → KeepsFrom g b m (stop_if c (Pest.halted (Cause.StackFull line) n) (λ _.
           Ok (Pest.set_stack (Pest.push (record { start = m.position; end = n.position }) n.stack) n)))
       room n y i true e = keeps_stop _
       room n y i false e =
@@ -517,7 +517,7 @@ module _ (g : Setting) where
       same_marks r y = subst (λ (k : ℕ). Keeps g true m.position m.lookahead m.atomicity k (length m.queue) r) (lengths_pop x rest m.stack) y
 
       room : (c : Bool) → ltb most_debt (debt (Pest.pop x rest m.stack).lengths) ≡ c
-          → KeepsFrom g true m (stop_if c (Cause.StackFull line) (λ _. k n))
+          → KeepsFrom g true m (stop_if c (Pest.halted (Cause.StackFull line) m) (λ _. k n))
       room true d = keeps_stop _
       room false d = same_marks _ (h (popped_fit x rest m e f d))
 
@@ -716,7 +716,8 @@ module _ (g : Setting) where
       full : ParserState → Bool
       full m = ltb most_attempts (length m.pos_attempts) || ltb most_attempts (length m.neg_attempts)
 
-      on : (m : ParserState) → Noted n m → (c : Bool) → full m ≡ c → Keeps g b q l a marks held (stop_if c (Cause.AttemptsFull line) (λ _. k m))
+      on : (m : ParserState) → Noted n m → (c : Bool) → full m ≡ c
+          → Keeps g b q l a marks held (stop_if c (Pest.halted (Cause.AttemptsFull line) n) (λ _. k m))
       on m x true e = keeps_stop _
       on m x false e =
           let u : (ltb most_attempts (length m.pos_attempts) ≡ false) × (ltb most_attempts (length m.neg_attempts) ≡ false) = or_left_false _ _ e in
@@ -726,7 +727,8 @@ module _ (g : Setting) where
           omega (arith, ltb-false most_attempts (length m.neg_attempts) u.1, ap (λ (y : ParserState). length y.neg_attempts) x.same) in
           rw x.same (h x.furthest x.positive x.negative x.within_text i j)
 
-      go : (c : Bool) → Keeps g b q l a marks held (elim c [ false ↦ k n | true ↦ stop_if (full t) (Cause.AttemptsFull line) (λ _. k t) ])
+      go : (c : Bool)
+          → Keeps g b q l a marks held (elim c [ false ↦ k n | true ↦ stop_if (full t) (Pest.halted (Cause.AttemptsFull line) n) (λ _. k t) ])
       go false = h n.attempt_pos n.pos_attempts n.neg_attempts f.inside f.positives f.negatives
       go true = on t (track_noted r p pi ni prev hp n f.inside) (full t) refl
 
@@ -774,7 +776,7 @@ module _ (g : Setting) where
       same : length q ≡ length n.queue
       same = length-set n.queue index _
 
-      room : (c : Bool) → leb g.capacity (length q) ≡ c → Keeps g b p l a marks held (stop_if c (Cause.TokensFull line) (λ _. Ok k))
+      room : (c : Bool) → leb g.capacity (length q) ≡ c → Keeps g b p l a marks held (stop_if c (Pest.halted (Cause.TokensFull line) n) (λ _. Ok k))
       room true e = keeps_stop _
       room false e = keeps_ok k (record {
         fit = pushed_fit n q (Pest.End index r 0 n.position) y.fit same (rw same at e);
@@ -786,7 +788,7 @@ module _ (g : Setting) where
       }) i
 
       go : (c : Bool) → Keeps g b p l a marks held (elim c
-          [ false ↦ Ok n | true ↦ stop_if (leb g.capacity (length q)) (Cause.TokensFull line) (λ _. Ok k) ])
+          [ false ↦ Ok n | true ↦ stop_if (leb g.capacity (length q)) (Pest.halted (Cause.TokensFull line) n) (λ _. Ok k) ])
       go false = keeps_ok n y i
       go true = room (leb g.capacity (length q)) refl
 
@@ -839,14 +841,14 @@ module _ (g : Setting) where
       s = Pest.set_queue (m.queue ++ (Pest.Start 0 m.position ∷ [])) m
 
       room : (c : Bool) → leb g.capacity (length m.queue) ≡ c
-          → KeepsFrom g b m (stop_if c (Cause.TokensFull line) (λ _. Pest.rule_start g true line r pi ni f m s))
+          → KeepsFrom g b m (stop_if c (Pest.halted (Cause.TokensFull line) m) (λ _. Pest.rule_start g true line r pi ni f m s))
       room true e = keeps_stop _
       room false e = ends (Pest.attempts_at m.position s) (length s.queue)
           (omega (arith, length-append m.queue (Pest.Start 0 m.position ∷ []))) (f s) (h s (pushed_fit m m.queue (Pest.Start 0 m.position) x refl e))
 
       go : (c : Bool) → KeepsFrom g b m (elim c [
         | false ↦ Pest.rule_start g true line r pi ni f m m
-        | true ↦ stop_if (leb g.capacity (length m.queue)) (Cause.TokensFull line) (λ _. Pest.rule_start g true line r pi ni f m s)
+        | true ↦ stop_if (leb g.capacity (length m.queue)) (Pest.halted (Cause.TokensFull line) m) (λ _. Pest.rule_start g true line r pi ni f m s)
       ])
       go false = ends (Pest.attempts_at m.position m) (length m.queue) (omega arith) (f m) (h m x)
       go true = room (leb g.capacity (length m.queue)) refl
@@ -928,7 +930,10 @@ module _ (g : Setting) (set : ℕ → Bool) (w : Tested g set) where
   refused_keeps e u y m x = keeps_err (no_room m) (stay g (no_room m) x)
     where
       no_room : ParserState → ParserState
-      no_room m = Pest.set_call_tracker (record { current_call_limit = m.call_tracker.current_call_limit; limit_reached = Some LimitKind.Stack }) m
+      no_room m =
+          Pest.set_call_tracker
+          (record { current_call_limit = m.call_tracker.current_call_limit; limit_reached = Some LimitKind.Stack; calls = m.call_tracker.calls })
+          m
 
   -- The invariant, at every depth and for every tree.
   pub eval_keeps : (depth : ℕ) (e : Exp) → Literals e → Steady set e → Keeping g (still set e) (eval g true depth e)

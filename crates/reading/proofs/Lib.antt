@@ -22,3 +22,6 @@ pub mod Runs
 pub mod Demand1
 pub mod Demand2
 pub mod Demand3
+pub mod Trackers
+pub mod Limits
+pub mod Request5

@@ -7,8 +7,7 @@ use mathlib.Core.List.{List}
 use Prim.Native.Nat.{ℕ, zero, suc, ◌-◌, ◌<◌}
 use native.Mathlib.Omega.{arith}
 use lib.ListN.{length}
-use Rattle.reading.specs.declared.parser_state.Cause.{Cause}
-use Rattle.reading.specs.Ending.{Ending, Ok, Err, Stop, Loops, loops_ok, loops_err, loops_stop}
+use Rattle.reading.specs.Ending.{Halted, Ending, Ok, Err, Stop, Loops, loops_ok, loops_err, loops_stop}
 use Rattle.reading.specs.Grammar.{Exp}
 use Rattle.reading.specs.Reading as Reading
 use Rattle.reading.specs.Reading.{Setting, State, most_rounds}
@@ -26,7 +25,7 @@ module _ {S : Type 0} (limited : S → Bool) (body : S → Ending S) (rounds : �
     (unrolled : (n : ℕ) (s : S) → rounds (suc n) s ≡ again (body s) (λ t. rounds n t))
     (again_ok : (t : S) (k : S → Ending S) → again (Ok t) k ≡ k t)
     (again_err : (t : S) (k : S → Ending S) → again (Err t) k ≡ (if limited t then Err t else Ok t))
-    (again_stop : (c : Cause) (k : S → Ending S) → again (Stop c) k ≡ Stop c)
+    (again_stop : (h : Halted) (k : S → Ending S) → again (Stop h) k ≡ Stop h)
     (Holds : S → Type 0) (left : S → ℕ) (nearer : (s t : S) → Holds s → body s ≡ Ok t → Holds t × (left t < left s)) where
   rounds_loop : (n : ℕ) (s : S) → Holds s → left s < n → Loops limited body s (rounds n s)
   rounds_loop zero s h l = absurd (omega arith)
@@ -38,7 +37,7 @@ module _ {S : Type 0} (limited : S → Bool) (body : S → Ending S) (rounds : �
           let k : Holds t × (left t < left s) = nearer s t h e in
           rw (again_ok t (λ u. rounds n u)) (loops_ok s t _ e (ih t k.0 (omega arith)))
       go (Err t) e ih = rw (again_err t (λ u. rounds n u)) (loops_err s t e)
-      go (Stop c) e ih = rw (again_stop c (λ u. rounds n u)) (loops_stop s c e)
+      go (Stop h) e ih = rw (again_stop h (λ u. rounds n u)) (loops_stop s h e)
 
 module _ (g : Setting) where
   abbrev left_of : ℕ → ℕ

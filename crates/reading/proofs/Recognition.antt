@@ -23,17 +23,18 @@ use Rattle.reading.specs.declared.parser_state.Lookahead.{Lookahead}
 use Rattle.reading.specs.declared.parser_state.Atomicity.{Atomicity}
 use Rattle.reading.specs.declared.parser_state.Cause.{Cause}
 use Rattle.reading.specs.declared.call_limit_tracker.LimitKind.{LimitKind}
-use Rattle.reading.specs.Ending.{Ending, Ok, Err, Stop, on_ok, on_err, stop_if, is_negative, is_none, is_atomic}
+use Rattle.reading.specs.Ending.{Halted, Ending, Ok, Err, Stop, on_ok, on_err, stop_if, is_negative, is_none, is_atomic}
 use Rattle.reading.specs.Grammar as Grammar
 use Rattle.reading.specs.Grammar.{Exp, RuleLine}
 use Rattle.reading.specs.Reading as Reading
 use Rattle.reading.specs.Reading.{Setting, State, initial, most_attempts, most_rounds, is_set}
 use Rattle.reading.specs.Forest.{tokens}
-use Rattle.reading.specs.Outcome.{Answer, answer, of_limit, of_tokens, of_failure, ascending}
+use Rattle.reading.specs.Outcome.{Answer, answer, of_cause, of_limit, of_tokens, of_failure, ascending}
 use Rattle.reading.specs.Pest as Pest
 use Rattle.reading.specs.Pest.{ParserState, QueueableToken, CallLimitTracker, Entered, level, eval}
 use Rattle.reading.specs.Ford as Ford
 use Rattle.reading.specs.Ford.{Peg, Ford, peg, each, each_of, any, times, rules_of, characters_of}
+use Rattle.reading.proofs.AnswerLaws.{stop_number}
 use Rattle.reading.proofs.Trees.{Literals, still, Steady}
 use Rattle.reading.proofs.FordLaws.{ford_unique, ford_suffix, star_left}
 use Rattle.reading.proofs.Trees.{Calls, whole, Plain}
@@ -161,7 +162,7 @@ module _ (g : Setting) where
     means_ok : (n : ParserState) → (cause n ≡ None → (c ≡ None) × Ford (rules_of g) e (from p) (Some (from n.position))) → Means e w p c (Ok n)
     means_err : (n : ParserState) → (cause n ≡ None → (c ≡ None) × Ford (rules_of g) e (from p) None × (w ≡ true → n.position ≡ p))
         → Means e w p c (Err n)
-    means_stop : (x : Cause) → Means e w p c (Stop x)
+    means_stop : (x : Halted) → Means e w p c (Stop x)
 
   abbrev pub MeansFrom : Peg → Bool → ParserState → Ending ParserState → Type 0
   MeansFrom e w m r = Means e w m.position (cause m) r
@@ -246,7 +247,11 @@ module _ (g : Setting) where
       (Pest.short_of_stack (Pest.remaining_stack room))
     where
       n : CallLimitTracker
-      n = record { current_call_limit = if counts then Pest.one_more t.current_call_limit else t.current_call_limit; limit_reached = t.limit_reached }
+      n = record {
+        current_call_limit = if counts then Pest.one_more t.current_call_limit else t.current_call_limit;
+        limit_reached = t.limit_reached;
+        calls = if counts then Pest.called t.calls else t.calls;
+      }
 
       own : Entered
       own = record { answer = false; tracker = t }
@@ -431,11 +436,11 @@ module _ (g : Setting) where
       full : Bool
       full = ltb most_attempts (length t.pos_attempts) || ltb most_attempts (length t.neg_attempts)
 
-      room : (b : Bool) → Means e w q c (stop_if b (Cause.AttemptsFull line) (λ _. k t))
+      room : (b : Bool) → Means e w q c (stop_if b (Pest.halted (Cause.AttemptsFull line) n) (λ _. k t))
       room true = means_stop _
       room false = h t (track_same r p pi ni prev n)
 
-      go : (b : Bool) → Means e w q c (elim b [ false ↦ k n | true ↦ stop_if full (Cause.AttemptsFull line) (λ _. k t) ])
+      go : (b : Bool) → Means e w q c (elim b [ false ↦ k n | true ↦ stop_if full (Pest.halted (Cause.AttemptsFull line) n) (λ _. k t) ])
       go false = h n (itself n)
       go true = room full
 
@@ -462,12 +467,12 @@ module _ (g : Setting) where
           u : ParserState
           u = Pest.set_queue (q ++ (Pest.End index r 0 t.position ∷ [])) t
 
-          room : (b : Bool) → MeansFrom e true m (stop_if b (Cause.TokensFull line) (λ _. Ok u))
+          room : (b : Bool) → MeansFrom e true m (stop_if b (Pest.halted (Cause.TokensFull line) t) (λ _. Ok u))
           room true = means_stop _
           room false = means_ok u k
 
           pick : (b : Bool) → MeansFrom e true m (elim b
-              [ false ↦ Ok t | true ↦ stop_if (leb g.capacity (length q)) (Cause.TokensFull line) (λ _. Ok u) ])
+              [ false ↦ Ok t | true ↦ stop_if (leb g.capacity (length q)) (Pest.halted (Cause.TokensFull line) t) (λ _. Ok u) ])
           pick false = means_ok t k
           pick true = room (leb g.capacity (length q))
 
@@ -493,13 +498,13 @@ module _ (g : Setting) where
       s = Pest.set_queue (m.queue ++ (Pest.Start 0 m.position ∷ [])) m
 
       room : (b : Bool) → leb g.capacity index ≡ b
-          → MeansFrom e true m (stop_if b (Cause.TokensFull line) (λ _. Pest.rule_start g true line r pi ni f m s))
+          → MeansFrom e true m (stop_if b (Pest.halted (Cause.TokensFull line) m) (λ _. Pest.rule_start g true line r pi ni f m s))
       room true q = means_stop _
       room false q = ends (Pest.attempts_at m.position s) (f s) (h s (pushed_fit g m m.queue (Pest.Start 0 m.position) y refl q))
 
       go : (b : Bool) → MeansFrom e true m (elim b [
         | false ↦ Pest.rule_start g true line r pi ni f m m
-        | true ↦ stop_if (leb g.capacity index) (Cause.TokensFull line) (λ _. Pest.rule_start g true line r pi ni f m s)
+        | true ↦ stop_if (leb g.capacity index) (Pest.halted (Cause.TokensFull line) m) (λ _. Pest.rule_start g true line r pi ni f m s)
       ])
       go false = ends (Pest.attempts_at m.position m) (f m) (h m y)
       go true = room (leb g.capacity index) refl
@@ -624,10 +629,7 @@ numbered g (Err s) = go s.tracker.cause refl
         ]).number
     go None e = failed_end (failed s e)
     go (Some k) e = limit_end k
-numbered g (Stop (Cause.EmptyStack l)) = other_end 13 (omega arith)
-numbered g (Stop (Cause.TokensFull l)) = other_end 14 (omega arith)
-numbered g (Stop (Cause.StackFull l)) = other_end 15 (omega arith)
-numbered g (Stop (Cause.AttemptsFull l)) = other_end 16 (omega arith)
+numbered g (Stop h) = other_end (of_cause h.cause).number (omega (arith, (stop_number h.cause).0))
 
 -- A match that gives 0 has no cause.
 pub no_cause : (s : State) → (answer (Ok s)).number ≡ 0 → s.tracker.cause ≡ None

@@ -17,8 +17,7 @@ use Rattle.matching.specs.Position.{same_folded}
 use Rattle.matching.proofs.Forward.{Found, found, string_forward, char_forward, skip_forward}
 use Rattle.matching.proofs.Edges.{Lands, lands_not, lands, string_lands, char_lands, skip_lands, span_whole, eqb_keeps, folded_keeps}
 use Rattle.reading.specs.declared.parser_state.Atomicity.{Atomicity}
-use Rattle.reading.specs.declared.parser_state.Cause.{Cause}
-use Rattle.reading.specs.Ending.{Ending, Ok, Err, Stop, on_ok, on_err, Span, is_negative, is_none, is_atomic}
+use Rattle.reading.specs.Ending.{Halted, Ending, Ok, Err, Stop, on_ok, on_err, Span, is_negative, is_none, is_atomic}
 use Rattle.reading.specs.Grammar as Grammar
 use Rattle.reading.specs.Grammar.{Exp, RuleLine}
 use Rattle.reading.specs.Reading.{Setting, most_rounds}
@@ -49,7 +48,7 @@ pub record On (g : Setting) (b : Bool) (p q : ℕ) (v : Stack) : Type 0 where
 pub data Alike (g : Setting) (b : Bool) (p : ℕ) : Ending ParserState → Ending ParserState → Type 0 where
   alike_ok : (n : ParserState) → On g b p n.position n.stack → Alike g b p (Ok n) (Ok n)
   alike_err : (n : ParserState) → On g true p n.position n.stack → Alike g b p (Err n) (Err n)
-  alike_stop : (c : Cause) → Alike g b p (Stop c) (Stop c)
+  alike_stop : (h : Halted) → Alike g b p (Stop h) (Stop h)
 
 pub alike_is : {g : Setting} {b : Bool} {p : ℕ} {r s : Ending ParserState} → Alike g b p r s → r ≡ s
 alike_is (alike_ok n x) = refl

@@ -1,21 +1,24 @@
 -- The laws of a run, from nothing but "the tests 4 to 9 passed": it agrees with pest's `state` (demand 2), its lists keep their bounds,
 -- and a plain grammar's run is what Ford's relation says.
-use mathlib.Core.Path.{◌≡◌, sym, ap, ◌∙◌, subst}
+use mathlib.Core.Path.{◌≡◌, refl, sym, ap, ◌∙◌, subst}
 use mathlib.Core.Bool.{Bool, true}
 use mathlib.Core.List.{List, [], ◌++◌}
 use Rattle.std.specs.Prelude.{Option, None, Some}
 use Prim.Native.Nat.{ℕ, ◌≤◌}
-use lib.ListN.{take, drop}
+use lib.IntN.{ℤ}
+use lib.ListN.{length, take, drop}
 use Rattle.reading.specs.declared.parser_state.Lookahead.{Lookahead}
 use Rattle.reading.specs.declared.parser_state.Atomicity.{Atomicity}
 use Rattle.reading.specs.Ending.{Ending, Ok, Span, Checkpoint}
 use Rattle.reading.specs.Forest.{Forest}
-use Rattle.reading.specs.Grammar.{Exp, line_count, root, plain}
-use Rattle.reading.specs.Reading.{State, most_entries}
+use Rattle.reading.specs.Grammar.{Exp, line_count, rule_at, root, plain}
+use Rattle.reading.specs.Reading as Reading
+use Rattle.reading.specs.Reading.{State, initial, most_entries}
 use Rattle.reading.specs.Pest as Pest
 use Rattle.reading.specs.Pest.{ParserState}
-use Rattle.reading.specs.Outcome.{Input, Refusal, refusal, setting, reading, answer, refused, started as laid_out, Outcome, outcome}
-use Rattle.reading.specs.Answer.{pest_answer, answer_to}
+use Rattle.reading.specs.Outcome.{Input, Refusal, refusal, capacity, setting, reading, Answer, answer, laid, refused, started as laid_out, Outcome}
+use Rattle.reading.specs.Outcome.{outcome, calls_of, counted_calls}
+use Rattle.reading.specs.Answer.{pest_answer, pest_calls, answer_to}
 use Rattle.reading.specs.Ford.{Ford, peg, rules_of, characters_of}
 use Rattle.reading.specs.Demand1.{Bounded, Within, bounded_ok, bounded_err, bounded_stop}
 use Rattle.reading.specs.Sound.{Fits, fits_none, fits_one}
@@ -25,11 +28,25 @@ use Rattle.reading.proofs.QueueLaws.{top}
 use Rattle.reading.proofs.Invariant.{Tested, Keeps, keeps_ok, keeps_err, eval_keeps}
 use Rattle.reading.proofs.Simulation.{Sim, sim_ok, sim_err, sim_stop, pest_of, held_is}
 use Rattle.reading.proofs.Rounds.{ending_alike}
-use Rattle.reading.proofs.Agree.{initial_fit, run_sim, alike, agree_at, Runs}
+use Rattle.reading.proofs.Agree.{initial_fit, run_sim, alike, calls_alike, agree_at, Runs}
 use Rattle.reading.proofs.CharacterLaws.{characters_split}
 use Rattle.reading.proofs.Recognition.{PlainRules, Recognised, matched, no_cause, ford_at, ford_parsed, ford_failed}
 use Rattle.reading.proofs.Accepted.{Accepted, RuleLine, Started, started, rule_still, rule_still_is, tree_literals, body_literals}
 use Rattle.reading.proofs.Accepted.{tree_calls, body_calls, tree_steady, body_steady, body_closed, tree_plain, body_plain, body_whole}
+
+-- ── What a run depends on: of an area, its size ──
+pub capacity_same : (a b : List ℕ) → length a ≡ length b → capacity a ≡ capacity b
+capacity_same a b e = rw e
+
+unfoldable pub run_of : (nodes : List ℤ) → (literals text : List ℕ) → (capacity depth limit : ℕ) → Ending State
+run_of ns l x n d c = Reading.eval (record { text = x; rule_at = rule_at ns l; capacity = n }) d (root ns l) (initial c)
+
+pub run_is : (i : Input) → reading i ≡ run_of i.nodes i.literals i.text (capacity i.tokens) i.depth_limit i.call_limit
+unfolding reading run_of
+run_is i = refl
+
+pub laid_same : {n n' m m' : ℕ} {a a' : Answer} → n ≡ n' → m ≡ m' → a ≡ a' → laid n m a ≡ laid n' m' a'
+laid_same p q r = rw (p, q, r)
 
 pub tested : (i : Input) → Accepted i.nodes i.literals → Tested (setting i) (rule_still i.nodes)
 tested i a = record {
@@ -58,6 +75,10 @@ module _ (i : Input) (e : refusal i ≡ None) where
   unfolding outcome
   outcome_is = ap (λ (r : Option Refusal). elim r as (λ _. Outcome) [ Some x ↦ refused i x | None ↦ laid_out i (answer (reading i)) ]) e
 
+  pub calls_are : counted_calls i ≡ calls_of (reading i)
+  unfolding counted_calls
+  calls_are = ap (λ (r : Option Refusal). elim r as (λ _. ℕ) [ Some x ↦ 0 | None ↦ calls_of (reading i) ]) e
+
   -- ── Demand 2: `state` ──
   -- A run that stops for no added reason answers what pest's `state` gives: number, tokens, furthest, sorted rules.
   pub agree : Runs (reading i) → (spent : ParserState → Ending ParserState)
@@ -76,6 +97,10 @@ module _ (i : Input) (e : refusal i ≡ None) where
   pub run_alike : answer (reading i) ≡ pest_answer (Pest.eval (setting i) true i.depth_limit at_root (Pest.new i.call_limit))
   unfolding reading
   run_alike = alike (setting i) (rule_still i.nodes) (tested i g) s.text_whole i.depth_limit i.call_limit at_root root_literals root_steady
+
+  pub run_calls : calls_of (reading i) ≡ pest_calls (Pest.eval (setting i) true i.depth_limit at_root (Pest.new i.call_limit))
+  unfolding reading
+  run_calls = calls_alike (setting i) (rule_still i.nodes) (tested i g) s.text_whole i.depth_limit i.call_limit at_root root_literals root_steady
 
   -- ── Demand 1: bounds ──
   tall : {h : ℕ} {ks : List Checkpoint} → Fits h ks → h ≤ most_entries

@@ -18,7 +18,7 @@ use Rattle.reading.specs.declared.parser_state.Lookahead.TheVariants as Looks
 use Rattle.reading.specs.declared.parser_state.Atomicity.{Atomicity}
 use Rattle.reading.specs.declared.parser_state.Cause.{Cause}
 use Rattle.reading.specs.declared.call_limit_tracker.LimitKind.{LimitKind}
-use Rattle.reading.specs.Ending.{Ending, Ok, Err, Stop, on_ok, on_err, stop_if, Span, is_negative, is_none, is_atomic}
+use Rattle.reading.specs.Ending.{Halted, Ending, Ok, Err, Stop, on_ok, on_err, stop_if, Span, is_negative, is_none, is_atomic}
 use Rattle.reading.specs.Grammar as Grammar
 use Rattle.reading.specs.Grammar.{Exp, RuleLine}
 use Rattle.reading.specs.Forest.{Forest, empty, add, count, size, cut, tag_last}
@@ -41,7 +41,7 @@ budget zero n = None
 budget (suc l) n = Some (record { current = n; limit = suc l })
 
 abbrev tracker_of : Tracker → CallLimitTracker
-tracker_of t = record { current_call_limit = budget t.limit t.counted; limit_reached = t.cause }
+tracker_of t = record { current_call_limit = budget t.limit t.counted; limit_reached = t.cause; calls = Reading.calls_in t }
 
 -- pest's state that stands for the state s inside the open rules o, with the popped entries p.
 abbrev pub pest_of : Open → Stk → State → ParserState
@@ -71,7 +71,7 @@ pub record Kept (l : Lookahead) (a : Atomicity) (f : Forest) (s : State) : Type 
 pub data Sim (o : Open) (ss : List Stk) (l : Lookahead) (a : Atomicity) (f : Forest) : Ending State → Ending ParserState → Type 0 where
   sim_ok : (s : State) (p : Stk) → Good o ss p s → Kept l a f s → Sim o ss l a f (Ok s) (Ok (pest_of o p s))
   sim_err : (s : State) (p : Stk) → Good o ss p s → Kept l a f s → Sim o ss l a f (Err s) (Err (pest_of o p s))
-  sim_stop : (c : Cause) → Sim o ss l a f (Stop c) (Stop c)
+  sim_stop : (h : Halted) → Sim o ss l a f (Stop h) (Stop h)
 
 -- Endings that began at s.
 abbrev SimFrom : Open → List Stk → State → Ending State → Ending ParserState → Type 0
@@ -105,11 +105,11 @@ module _ (g : Setting) where
   from_earlier k r m (sim_stop c) = sim_stop c
 
   -- Where both sides stop, or neither.
-  both_stop : {o : Open} {ss : List Stk} {l : Lookahead} {a : Atomicity} {f : Forest} (c : Cause) (x : Ending State)
+  both_stop : {o : Open} {ss : List Stk} {l : Lookahead} {a : Atomicity} {f : Forest} (h : Halted) (x : Ending State)
       (y : Ending ParserState) (b : Bool)
-      → Sim o ss l a f x y → Sim o ss l a f (stop_if b c (λ _. x)) (stop_if b c (λ _. y))
-  both_stop c x y true h = sim_stop c
-  both_stop c x y false h = h
+      → Sim o ss l a f x y → Sim o ss l a f (stop_if b h (λ _. x)) (stop_if b h (λ _. y))
+  both_stop h x y true k = sim_stop h
+  both_stop h x y false k = k
 
   -- ── Kinds 6 and 7 ──
   and_sim : {b : Bool} (r₁ r₂ : State → Ending State) (m₁ m₂ : ParserState → Ending ParserState) → Preserves r₁ m₁ → Preserves r₂ m₂ → Keeping g b m₁
@@ -155,25 +155,32 @@ data EnterSim : Reading.Entry → Entered → Type 0 where
   in_both : (t : Tracker) → EnterSim (Reading.entered t) (record { answer = true; tracker = tracker_of t })
   out_both : (t : Tracker) → EnterSim (Reading.refused t) (record { answer = false; tracker = tracker_of t })
 
+-- A tracker by its parts.
+abbrev pub tracker_at : (limit counted : ℕ) → Option LimitKind → Tracker
+tracker_at l n c = record { limit = l; counted = n; cause = c }
+
+-- One call more, of a number that stays at its largest.
+called_one : (l n : ℕ) (c : Option LimitKind) → Pest.called (Reading.calls_in (tracker_at l n c)) ≡ Reading.calls_in (tracker_at l (suc n) c)
+called_one l n c = omega arith
+
 enter_sim : (limit n : ℕ) (c : Option LimitKind) (room counts : Bool)
-    → EnterSim (Reading.enter room counts (record { limit = limit; counted = n; cause = c }))
-    (Pest.enter room counts (tracker_of (record { limit = limit; counted = n; cause = c })))
-enter_sim limit n (Some x) room counts = out_both (record { limit = limit; counted = n; cause = Some x })
-enter_sim zero n None true true = in_both (record { limit = 0; counted = suc n; cause = None })
-enter_sim zero n None false true = out_both (record { limit = 0; counted = n; cause = Some LimitKind.Stack })
-enter_sim zero n None true false = in_both (record { limit = 0; counted = n; cause = None })
-enter_sim zero n None false false = out_both (record { limit = 0; counted = n; cause = Some LimitKind.Stack })
-enter_sim (suc l) n None true false = in_both (record { limit = suc l; counted = n; cause = None })
-enter_sim (suc l) n None false false = out_both (record { limit = suc l; counted = n; cause = Some LimitKind.Stack })
+    → EnterSim (Reading.enter room counts (tracker_at limit n c)) (Pest.enter room counts (tracker_of (tracker_at limit n c)))
+enter_sim limit n (Some x) room counts = out_both (tracker_at limit n (Some x))
+enter_sim zero n None true true = rw (called_one 0 n None) (in_both (tracker_at 0 (suc n) None))
+enter_sim zero n None false true = out_both (tracker_at 0 n (Some LimitKind.Stack))
+enter_sim zero n None true false = in_both (tracker_at 0 n None)
+enter_sim zero n None false false = out_both (tracker_at 0 n (Some LimitKind.Stack))
+enter_sim (suc l) n None true false = in_both (tracker_at (suc l) n None)
+enter_sim (suc l) n None false false = out_both (tracker_at (suc l) n (Some LimitKind.Stack))
 enter_sim (suc l) n None room true = go (leb (suc l) n) refl room
   where
     t : Tracker
-    t = record { limit = suc l; counted = n; cause = None }
+    t = tracker_at (suc l) n None
 
     go : (b : Bool) → leb (suc l) n ≡ b → (room : Bool) → EnterSim (Reading.enter room true t) (Pest.enter room true (tracker_of t))
-    go true e x = rw e (out_both (record { limit = suc l; counted = n; cause = Some LimitKind.Call }))
-    go false e true = rw e (in_both (record { limit = suc l; counted = suc n; cause = None }))
-    go false e false = rw e (out_both (record { limit = suc l; counted = n; cause = Some LimitKind.Stack }))
+    go true e x = rw e (out_both (tracker_at (suc l) n (Some LimitKind.Call)))
+    go false e true = rw (e, called_one (suc l) n None) (in_both (tracker_at (suc l) (suc n) None))
+    go false e false = rw e (out_both (tracker_at (suc l) n (Some LimitKind.Stack)))
 
 module _ (g : Setting) where
   entering_sim : (room counts : Bool) (k : State → Ending State) (mk : ParserState → Ending ParserState) → Preserves g k mk
@@ -337,7 +344,7 @@ module _ (g : Setting) where
     where
       go : (x : Ending State) (y : Ending ParserState) → SimFrom o ss s x y
           → SimFrom o ss s (Reading.push_end line s x) (Pest.push_end g.text true line s.position y)
-      go x y (sim_ok t q j k) = both_stop g (Cause.StackFull line) _ _ (leb most_entries (length t.stack))
+      go x y (sim_ok t q j k) = both_stop g (Reading.halted (Cause.StackFull line) t) _ _ (leb most_entries (length t.stack))
           (sim_ok (Reading.with_stack (record { start = s.position; end = t.position } ∷ t.stack) t.checkpoints t) q
           (record { base = j.base; inv = inv_push _ j.inv }) (record { look = k.look; atom = k.atom; grown = k.grown }))
       go x y (sim_err t q j k) = sim_err t q j k
@@ -354,8 +361,8 @@ module _ (g : Setting) where
   popping_sim line x rest k mk o ss p s i e h =
       let c : Popped x rest ss p s.checkpoints = inv_pop x rest (rw e at i.inv) in
       subst (λ (v : Pest.Stack). SimFrom o ss s (Reading.popping g.text line rest s k)
-      (stop_if (ltb most_debt (debt v.lengths)) (Cause.StackFull line) (λ _. mk (Pest.set_stack v (pest_of o p s))))) (sym c.same)
-      (both_stop g (Cause.StackFull line) _ _ (ltb most_debt (debt (Reading.lower_to (length rest) s.checkpoints)))
+      (stop_if (ltb most_debt (debt v.lengths)) (Reading.halted (Cause.StackFull line) s) (λ _. mk (Pest.set_stack v (pest_of o p s))))) (sym c.same)
+      (both_stop g (Reading.halted (Cause.StackFull line) s) _ _ (ltb most_debt (debt (Reading.lower_to (length rest) s.checkpoints)))
       (h c.left (record { base = i.base; inv = c.inv })))
 
   pop_sim : (line : ℕ) → Preserves g (λ s. Reading.popped g.text line s.stack s) (λ m. Pest.stack_pop g.text true line m.stack.cache m)
@@ -507,18 +514,21 @@ module _ (g : Setting) where
       -- pest's side, where it tracks
       model : ParserState → Ending ParserState
       model m = stop_if (ltb Reading.most_attempts (length m.pos_attempts) || ltb Reading.most_attempts (length m.neg_attempts))
-          (Cause.AttemptsFull line) (λ _. mk m)
+          (Reading.halted (Cause.AttemptsFull line) t) (λ _. mk m)
 
       go : (due x : Bool) → is_atomic t.atomicity ≡ x
-          → Sim X ss l a f (elim (due && not x)
-          [ false ↦ k t | true ↦ stop_if (Reading.attempts_full b) (Cause.AttemptsFull line) (λ _. k (Reading.with_attempts b t)) ])
+          → Sim X ss l a f (elim (due && not x) [
+            | false ↦ k t
+            | true ↦ stop_if (Reading.attempts_full b) (Reading.halted (Cause.AttemptsFull line) t)
+                (λ _. k (Reading.with_attempts b t))
+          ])
           (elim (due && not x) [ false ↦ mk (pest_of o q t) | true ↦ model (Pest.track r p n.positives n.negatives n.total (pest_of o q t)) ])
       go false x e = h t.attempts
       go true true e = h t.attempts
       go true false e =
-          subst (λ (m : ParserState). Sim X ss l a f (stop_if (Reading.attempts_full b) (Cause.AttemptsFull line) (λ _.
+          subst (λ (m : ParserState). Sim X ss l a f (stop_if (Reading.attempts_full b) (Reading.halted (Cause.AttemptsFull line) t) (λ _.
           k (Reading.with_attempts b t))) (model m)) (sym (track_is o q t r p n e))
-          (both_stop g (Cause.AttemptsFull line) _ _ (Reading.attempts_full b) (h b))
+          (both_stop g (Reading.halted (Cause.AttemptsFull line) t) _ _ (Reading.attempts_full b) (h b))
 
   -- ── Kind 8 ──
   -- pest's queue is as long as the tokens that the reading holds.
@@ -567,10 +577,10 @@ module _ (g : Setting) where
           → SimFrom o ss s (Reading.closed g true line r s u) (Pest.close_rule g true line r index (pest_of o' q u))
       closed_sim e u q j k =
           subst (λ (y : Ending ParserState). SimFrom o ss s (Reading.closed g true line r s u) y) (sym close_is)
-          (subst (λ (c : ℕ). SimFrom o ss s (stop_if (leb g.capacity c) (Cause.TokensFull line) (λ _. Ok w))
-          (stop_if (leb g.capacity (length (patched x))) (Cause.TokensFull line) (λ _.
+          (subst (λ (c : ℕ). SimFrom o ss s (stop_if (leb g.capacity c) (Reading.halted (Cause.TokensFull line) u) (λ _. Ok w))
+          (stop_if (leb g.capacity (length (patched x))) (Reading.halted (Cause.TokensFull line) u) (λ _.
           Ok (pushed (patched x ++ (Pest.End index r 0 u.position ∷ [])))))) tokens
-          (both_stop g (Cause.TokensFull line) (Ok w) _ (leb g.capacity (length (patched x)))
+          (both_stop g (Reading.halted (Cause.TokensFull line) u) (Ok w) _ (leb g.capacity (length (patched x)))
           (ok_by g w q _ (ap pushed (closed_queue u q j)) (record { base = i.base; inv = j.inv })
           (record { look = k.look; atom = k.atom; grown = grows_add r 0 s.position u.position u.siblings (grows_refl s.siblings) }))))
         where
@@ -586,11 +596,12 @@ module _ (g : Setting) where
           tokens : length (patched x) ≡ Reading.held u
           tokens = length-set x.queue index _ ∙ held_is o' q u j.base
 
-          close_is : Pest.close_rule g true line r index x ≡ stop_if (leb g.capacity (length (patched x))) (Cause.TokensFull line) (λ _.
+          close_is : Pest.close_rule g true line r index x
+              ≡ stop_if (leb g.capacity (length (patched x))) (Reading.halted (Cause.TokensFull line) u) (λ _.
               Ok (pushed (patched x ++ (Pest.End index r 0 u.position ∷ []))))
           close_is = ap (λ (b : Bool). elim b as (λ _. Ending ParserState) [
             | false ↦ Ok x
-            | true ↦ stop_if (leb g.capacity (length (patched x))) (Cause.TokensFull line) (λ _.
+            | true ↦ stop_if (leb g.capacity (length (patched x))) (Reading.halted (Cause.TokensFull line) u) (λ _.
                 Ok (pushed (patched x ++ (Pest.End index r 0 u.position ∷ []))))
           ]) (produces_as o' q u k ∙ e)
 
@@ -656,8 +667,8 @@ module _ (g : Setting) where
           (pushed_fit g m m.queue (Pest.Start 0 s.position) v refl c))))
 
       room : Reading.recorded s ≡ true → (b : Bool) → leb g.capacity index ≡ b
-          → SimFrom o ss s (stop_if b (Cause.TokensFull line) (λ _. Reading.rule_end g true line r n s (d (Reading.opened g s))))
-          (stop_if b (Cause.TokensFull line) (λ _. m_end (md started)))
+          → SimFrom o ss s (stop_if b (Reading.halted (Cause.TokensFull line) s) (λ _. Reading.rule_end g true line r n s (d (Reading.opened g s))))
+          (stop_if b (Reading.halted (Cause.TokensFull line) s) (λ _. m_end (md started)))
       room e true c = sim_stop _
       room e false c = body c e
 
@@ -665,12 +676,17 @@ module _ (g : Setting) where
           → SimFrom o ss s
           (elim b [
             | false ↦ Reading.rule_end g false line r n s (d s)
-            | true ↦ stop_if (Reading.no_token g s) (Cause.TokensFull line) (λ _. Reading.rule_end g true line r n s (d (Reading.opened g s)))
+            | true ↦ stop_if (Reading.no_token g s) (Reading.halted (Cause.TokensFull line) s)
+                (λ _. Reading.rule_end g true line r n s (d (Reading.opened g s)))
           ])
-          (elim b [ false ↦ m_end (md m) | true ↦ stop_if (leb g.capacity index) (Cause.TokensFull line) (λ _. m_end (md started)) ])
-      go true e = subst (λ (c : ℕ). SimFrom o ss s (stop_if (leb g.capacity c) (Cause.TokensFull line) (λ _.
+          (elim b [
+            | false ↦ m_end (md m)
+            | true ↦ stop_if (leb g.capacity index) (Reading.halted (Cause.TokensFull line) s)
+                (λ _. m_end (md started))
+          ])
+      go true e = subst (λ (c : ℕ). SimFrom o ss s (stop_if (leb g.capacity c) (Reading.halted (Cause.TokensFull line) s) (λ _.
           Reading.rule_end g true line r n s (d (Reading.opened g s))))
-          (stop_if (leb g.capacity index) (Cause.TokensFull line) (λ _. m_end (md started))))
+          (stop_if (leb g.capacity index) (Reading.halted (Cause.TokensFull line) s) (λ _. m_end (md started))))
           (held_is o p s i.base) (room e (leb g.capacity index) refl)
       go false e = end_silent e _ _ (h o ss p s i v)
 

@@ -9,7 +9,7 @@ use Prim.Native.Nat.{ℕ, zero, suc}
 use lib.ListN.{length, take, set, get_or}
 use lib.Dec.{eqb, ltb, leb}
 use Rattle.reading.specs.declared.parser_state.Cause.{Cause}
-use Rattle.reading.specs.Ending.{Ending, Ok, Err, Stop, on_ok, on_err, stop_if, Span, is_negative, is_atomic}
+use Rattle.reading.specs.Ending.{Halted, Ending, Ok, Err, Stop, on_ok, on_err, stop_if, Span, is_negative, is_atomic}
 use Rattle.reading.specs.Grammar as Grammar
 use Rattle.reading.specs.Grammar.{Exp, RuleLine}
 use Rattle.reading.specs.Reading.{Setting, most_entries, most_debt, most_attempts, most_rounds, debt}
@@ -19,21 +19,21 @@ use Rattle.reading.specs.Pest.{ParserState, QueueableToken, Entered}
 -- The bounded ending and the unbounded one: the same, unless the first is a stop.
 pub data Freed : Ending ParserState → Ending ParserState → Type 0 where
   freed : (x : Ending ParserState) → Freed x x
-  freed_stop : (c : Cause) (y : Ending ParserState) → Freed (Stop c) y
+  freed_stop : (c : Halted) (y : Ending ParserState) → Freed (Stop c) y
 
 abbrev pub Frees : (ParserState → Ending ParserState) → (ParserState → Ending ParserState) → Type 0
 Frees f h = (m : ParserState) → Freed (f m) (h m)
 
 -- What a combinator makes of its body's ending, where a stop stays a stop.
 record Strict (f : Ending ParserState → Ending ParserState) : Type 0 where
-  stops : (c : Cause) → f (Stop c) ≡ Stop c
+  stops : (c : Halted) → f (Stop c) ≡ Stop c
 
 after : (f : Ending ParserState → Ending ParserState) → Strict f → (x y : Ending ParserState) → Freed x y → Freed (f x) (f y)
 after f s x y (freed z) = freed (f z)
 after f s x y (freed_stop c z) = rw (s.stops c) (freed_stop c (f z))
 
 -- A bound that is not there.
-unless_full : (b : Bool) (c : Cause) (x y : Ending ParserState) → Freed x y → Freed (stop_if b c (λ _. x)) y
+unless_full : (b : Bool) (c : Halted) (x y : Ending ParserState) → Freed x y → Freed (stop_if b c (λ _. x)) y
 unless_full true c x y h = freed_stop c y
 unless_full false c x y h = h
 
@@ -91,14 +91,15 @@ module _ (g : Setting) where
       full : Bool
       full = ltb most_attempts (length n.pos_attempts) || ltb most_attempts (length n.neg_attempts)
 
-      go : (b : Bool) → Freed (elim b [ false ↦ f m | true ↦ stop_if full (Cause.AttemptsFull line) (λ _. f n) ]) (elim b
+      go : (b : Bool) → Freed (elim b [ false ↦ f m | true ↦ stop_if full (Pest.halted (Cause.AttemptsFull line) m) (λ _. f n) ]) (elim b
           [ false ↦ h m | true ↦ h n ])
       go false = k m
-      go true = unless_full full (Cause.AttemptsFull line) (f n) (h n) (k n)
+      go true = unless_full full (Pest.halted (Cause.AttemptsFull line) m) (f n) (h n) (k n)
 
   push_frees : (line : ℕ) (t : QueueableToken) (m : ParserState) (f h : ParserState → Ending ParserState) → Frees f h
       → Freed (Pest.push_token g true line t m f) (Pest.push_token g false line t m h)
-  push_frees line t m f h k = unless_full (leb g.capacity (length m.queue)) (Cause.TokensFull line) _ _ (k (Pest.set_queue (m.queue ++ (t ∷ [])) m))
+  push_frees line t m f h k =
+      unless_full (leb g.capacity (length m.queue)) (Pest.halted (Cause.TokensFull line) m) _ _ (k (Pest.set_queue (m.queue ++ (t ∷ [])) m))
 
   close_frees : (line r index : ℕ) → Frees (λ m. Pest.close_rule g true line r index m) (λ m. Pest.close_rule g false line r index m)
   close_frees line r index m = go (Pest.produces m)
@@ -151,14 +152,15 @@ module _ (g : Setting) where
   -- ── Kinds 14, 15 and 17 ──
   push_end_frees : (line start : ℕ) (x y : Ending ParserState) → Freed x y
       → Freed (Pest.push_end g.text true line start x) (Pest.push_end g.text false line start y)
-  push_end_frees line start x y (freed (Ok m)) = unless_full (leb most_entries (length m.stack.cache)) (Cause.StackFull line) _ _ (freed _)
+  push_end_frees line start x y (freed (Ok m)) =
+      unless_full (leb most_entries (length m.stack.cache)) (Pest.halted (Cause.StackFull line) m) _ _ (freed _)
   push_end_frees line start x y (freed (Err m)) = freed (Err m)
   push_end_frees line start x y (freed (Stop c)) = freed (Stop c)
   push_end_frees line start x y (freed_stop c z) = freed_stop c _
 
   popping_frees : (line : ℕ) (x : Span) (rest : List Span) (m : ParserState) (f h : ParserState → Ending ParserState) → Frees f h
       → Freed (Pest.popping g.text true line x rest m f) (Pest.popping g.text false line x rest m h)
-  popping_frees line x rest m f h k = unless_full (ltb most_debt (debt (Pest.pop x rest m.stack).lengths)) (Cause.StackFull line) _ _
+  popping_frees line x rest m f h k = unless_full (ltb most_debt (debt (Pest.pop x rest m.stack).lengths)) (Pest.halted (Cause.StackFull line) m) _ _
       (k (Pest.set_stack (Pest.pop x rest m.stack) m))
 
   pop_frees : (line : ℕ) (c : List Span) → Frees (λ m. Pest.stack_pop g.text true line c m) (λ m. Pest.stack_pop g.text false line c m)

@@ -1,5 +1,5 @@
 -- What document 01 answers to pest's endings.
-use Rattle.std.specs.Prelude.{List, [], ◌∷◌}
+use Rattle.std.specs.Prelude.{List, [], ◌∷◌, ℕ}
 use Rattle.std.specs.Prelude.{None, Some}
 use Rattle.reading.specs.declared.parser_state.Cause.TheVariants.{EmptyStack}
 use Rattle.reading.specs.Ending.{Ending, Ok, Err, Stop}
@@ -24,7 +24,13 @@ pest_answer (Err m) =
       | Some c ↦ of_limit c m.attempt_pos
       | None ↦ of_failure m.attempt_pos (ascending m.pos_attempts) (ascending m.neg_attempts)
     ]
-pest_answer (Stop c) = of_cause c
+pest_answer (Stop h) = of_cause h.cause
+
+-- The number of calls that a result carries, as `calls_of` of Outcome.
+abbrev pub pest_calls : Ending ParserState → ℕ
+pest_calls (Ok m) = m.call_tracker.calls
+pest_calls (Err m) = m.call_tracker.calls
+pest_calls (Stop h) = h.calls
 
 -- To what pest's `state` gives. A panic is no answer of a run.
 abbrev pub answer_to : Result → Answer

@@ -2,10 +2,9 @@
 use Rattle.std.specs.Prelude.{◌≡◌, List, ℕ, ◌≤◌, length}
 use Rattle.std.specs.Prelude.{None, Some}
 use Rattle.matching.specs.Utf8.{Edge}
-use Rattle.reading.specs.declared.parser_state.Cause.{Cause}
-use Rattle.reading.specs.Ending.{Ending, Ok, Err, Stop}
+use Rattle.reading.specs.Ending.{Halted, Ending, Ok, Err, Stop}
 use Rattle.reading.specs.Reading.{State, most_entries, most_debt, most_attempts, debt, held}
-use Rattle.reading.specs.Outcome.{Input, Refusal, refusal, setting, reading, of_cause, started, Outcome}
+use Rattle.reading.specs.Outcome.{Input, Refusal, refusal, setting, reading, of_cause, started, RunOutcome}
 
 -- At its end a run stands at a character edge of the text, and no list has passed its bound.
 pub record Bounded (i : Input) (t : State) : Type 0 where
@@ -20,17 +19,19 @@ pub record Bounded (i : Input) (t : State) : Type 0 where
 pub data Within (i : Input) : Ending State → Type 0 where
   bounded_ok : (t : State) → Bounded i t → Within i (Ok t)
   bounded_err : (t : State) → Bounded i t → Within i (Err t)
-  bounded_stop : (c : Cause) → Within i (Stop c)
+  bounded_stop : (h : Halted) → Within i (Stop h)
 
 -- "Refused by number, with the areas left as document 01 fixes": one of 4 to 9, and all areas as they were.
-pub record Refused (i : Input) (r : Refusal) (o : Outcome) (before after : List ℕ) : Type 0 where
+pub record Refused (i : Input) (r : Refusal) (o : RunOutcome) (before after : List ℕ) : Type 0 where
   pub from : 4 ≤ r.number
   pub to : r.number ≤ 9
-  pub number : o.number ≡ r.number
-  pub place : o.place ≡ r.place
-  pub count : o.count ≡ 0
-  pub tokens : o.tokens ≡ i.tokens
-  pub report : o.report ≡ i.report
+  pub number : o.outcome.number ≡ r.number
+  pub place : o.outcome.place ≡ r.place
+  pub count : o.outcome.count ≡ 0
+  -- (document 02, request 5) "0 if it never started"
+  pub calls : o.calls ≡ 0
+  pub tokens : o.outcome.tokens ≡ i.tokens
+  pub report : o.outcome.report ≡ i.report
   pub scratch : after ≡ before
 
 -- "run to an end": 0, or 10 to 16.
@@ -39,11 +40,11 @@ pub data Ended : ℕ → Type 0 where
   without : (n : ℕ) → 10 ≤ n → n ≤ 16 → Ended n
 
 -- `before` and `after`: scratch.
-pub record Demand1 (i : Input) (o : Outcome) (before after : List ℕ) : Type 0 where
+pub record Demand1 (i : Input) (o : RunOutcome) (before after : List ℕ) : Type 0 where
   pub refused : (r : Refusal) → refusal i ≡ Some r → Refused i r o before after
   -- "Every other sheet, text and limit is accepted and run to an end."
-  pub accepted : refusal i ≡ None → Ended o.number
-  -- "full lists, a pop of an empty stack": their numbers, and both areas zeroed.
-  pub full : refusal i ≡ None → (c : Cause) → reading i ≡ Stop c → o ≡ started i (of_cause c)
+  pub accepted : refusal i ≡ None → Ended o.outcome.number
+  -- "full lists, a pop of an empty stack": their numbers, both areas zeroed, and the calls entered by then.
+  pub full : refusal i ≡ None → (h : Halted) → reading i ≡ Stop h → (o.outcome ≡ started i (of_cause h.cause)) × (o.calls ≡ h.calls)
   -- So nothing is cut silently.
   pub within : refusal i ≡ None → Within i (reading i)

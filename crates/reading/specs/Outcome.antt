@@ -10,7 +10,7 @@ use Rattle.reading.specs.Ending.{Ending, Ok, Err, Stop}
 use Rattle.reading.specs.Grammar.{misfit, root, rule_at}
 use Rattle.reading.specs.Nullable.{still_repeat}
 use Rattle.reading.specs.Forest.{Token, tokens}
-use Rattle.reading.specs.Reading.{State, Setting, initial, eval}
+use Rattle.reading.specs.Reading.{State, Setting, initial, calls_in, eval}
 
 -- What a run is handed: nodes, literal text, text, limits, the two areas as they are at its start, and the size of scratch.
 pub record Input : Type 0 where
@@ -141,7 +141,7 @@ answer (Err s) =
       | Some c ↦ of_limit c s.attempts.furthest
       | None ↦ of_failure s.attempts.furthest (ascending s.attempts.positive) (ascending s.attempts.negative)
     ]
-answer (Stop c) = of_cause c
+answer (Stop h) = of_cause h.cause
 
 -- ── The outcome ──
 -- Number, place and count, and the two areas as they stand at the end.
@@ -174,3 +174,18 @@ refused i r = record { number = r.number; place = r.place; count = 0; tokens = i
 
 unfoldable pub outcome : Input → Outcome
 outcome i = elim (refusal i) [ Some r ↦ refused i r | None ↦ started i (answer (reading i)) ]
+
+-- ── Document 02, request 5 ──
+-- "Every run's result carries the counted calls entered"
+pub record RunOutcome : Type 0 where
+  pub outcome : Outcome
+  pub calls : ℕ
+
+abbrev pub calls_of : Ending State → ℕ
+calls_of (Ok s) = calls_in s.tracker
+calls_of (Err s) = calls_in s.tracker
+calls_of (Stop h) = h.calls
+
+-- "0 if it never started"
+unfoldable pub counted_calls : Input → ℕ
+counted_calls i = elim (refusal i) [ Some r ↦ 0 | None ↦ calls_of (reading i) ]

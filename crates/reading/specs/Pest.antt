@@ -1,13 +1,15 @@
 -- pest 2.9.5's own state and methods, carried over from parser_state.rs, stack.rs, queueable_token.rs, position.rs and span.rs under
 -- pest's names. A Vec is a list: the queue and the attempts in the order of their indexes, the stack's three Vecs with the last first.
 -- A Vec that has no room for one more stops where `bounded` is true: document 01's stops 14 to 16. With `bounded` false nothing
--- but a failed `expect` stops, and this is pest. Left out is `parse_attempts`, which only error detail reads, and that is off.
+-- but a failed `expect` stops, and this is pest. Left out is `parse_attempts`, which only error detail reads, and that is off. Added is
+-- `calls` of the tracker, document 02's counted calls: pest counts only under a limit, in `current_call_limit`. Of what `state` answers
+-- nothing depends on it (`result_of`).
 --
 -- The reading and pest's side share these definitions, so no law between the two can see a mistake in them, only rust/'s comparison
 -- with pest can. Of matching: `decode` and `within` (a character, and whether it is in a range), `past` (the step over one),
 -- `same_folded`, `bytes_of`. Of Grammar: which tree a line stands for, and `rule_at`. Of Ending: `on_ok` and `on_err` (kinds 6 and 7),
--- `is_none`, `is_negative`, `is_atomic`. Of Reading: `is_set`. Shared too, but no part of pest: the stops (`stop_if`, `debt`, the bounds)
--- and the number of rounds that a loop is given (`most_rounds`; see `loop`).
+-- `is_none`, `is_negative`, `is_atomic`. Of Reading: `is_set`. Shared too, but no part of pest: the stops (`stop_if`, `debt`, the bounds),
+-- the largest count (`most_calls`), and the number of rounds that a loop is given (`most_rounds`; see `loop`).
 use Rattle.std.specs.Prelude.{Bool, true, false, ◌&&◌, ◌||◌, not, List, [], ◌∷◌, ◌++◌, reverse, ℕ, zero, suc, ◌+◌, ◌-◌, min, ℤ, pos, negsuc}
 use Rattle.std.specs.Prelude.{◌+ℤ◌, length, get_or, take, drop, set, eqb, ltb, leb, if◌then◌else◌}
 use Rattle.std.specs.Prelude.{Option, None, Some}
@@ -19,12 +21,13 @@ use Rattle.reading.specs.declared.parser_state.Lookahead.TheVariants.{Positive, 
 use Rattle.reading.specs.declared.parser_state.Lookahead.TheVariants as Looks
 use Rattle.reading.specs.declared.parser_state.Atomicity.{Atomicity}
 use Rattle.reading.specs.declared.parser_state.Atomicity.TheVariants.{Atomic, CompoundAtomic, NonAtomic}
+use Rattle.reading.specs.declared.parser_state.Cause.{Cause}
 use Rattle.reading.specs.declared.parser_state.Cause.TheVariants.{EmptyStack, TokensFull, StackFull, AttemptsFull}
 use Rattle.reading.specs.declared.call_limit_tracker.LimitKind.{LimitKind}
-use Rattle.reading.specs.Ending.{Ending, Ok, Err, Stop, on_ok, on_err, stop_if, Span, Checkpoint, is_negative, is_none, is_atomic}
+use Rattle.reading.specs.Ending.{Halted, Ending, Ok, Err, Stop, on_ok, on_err, stop_if, Span, Checkpoint, is_negative, is_none, is_atomic}
 use Rattle.reading.specs.Grammar as Grammar
 use Rattle.reading.specs.Grammar.{Exp, RuleLine}
-use Rattle.reading.specs.Reading.{Setting, most_entries, most_debt, most_attempts, most_rounds, debt, is_set}
+use Rattle.reading.specs.Reading.{Setting, most_entries, most_debt, most_attempts, most_rounds, most_calls, debt, is_set}
 
 -- ── iterators/queueable_token.rs; tag 0 is `None` ──
 pub data QueueableToken : Type 0 where
@@ -87,9 +90,11 @@ pub record CallLimit : Type 0 where
   pub current : ℕ
   pub limit : ℕ
 
+-- `calls`: the counted calls, with no limit too. pest has no such field; nothing reads it here but a stop (`halted`).
 pub record CallLimitTracker : Type 0 where
   pub current_call_limit : Option CallLimit
   pub limit_reached : Option LimitKind
+  pub calls : ℕ
 
 abbrev pub exceeded : Option CallLimit → Bool
 exceeded None = false
@@ -107,6 +112,10 @@ abbrev pub one_more : Option CallLimit → Option CallLimit
 one_more None = None
 one_more (Some c) = Some (record c { current = suc c.current })
 
+-- Document 02, request 5: "stays at its largest once there"
+abbrev pub called : (calls : ℕ) → ℕ
+called n = min (suc n) most_calls
+
 -- `REQUIRED_STACK_SPACE`
 abbrev pub short_of_stack : Option ℕ → Bool
 short_of_stack None = false
@@ -119,7 +128,10 @@ enter_with_stack count_call space t =
     else if short_of_stack space then reached LimitKind.Stack t
     else record {
       answer = true;
-      tracker = record t { current_call_limit = if count_call then one_more t.current_call_limit else t.current_call_limit };
+      tracker = record t {
+        current_call_limit = if count_call then one_more t.current_call_limit else t.current_call_limit;
+        calls = if count_call then called t.calls else t.calls;
+      };
     }
 
 -- Document 01's stand-in: "gives `Some(0)` when the open calls number the depth limit or more, else `None`".
@@ -155,7 +167,7 @@ new l = record {
   attempt_pos = 0;
   atomicity = NonAtomic;
   stack = record { cache = []; popped = []; lengths = [] };
-  call_tracker = record { current_call_limit = if ltb 0 l then Some (record { current = 0; limit = l }) else None; limit_reached = None };
+  call_tracker = record { current_call_limit = if ltb 0 l then Some (record { current = 0; limit = l }) else None; limit_reached = None; calls = 0 };
 }
 
 abbrev pub set_position : ℕ → ParserState → ParserState
@@ -181,6 +193,10 @@ set_call_tracker t m = record m { call_tracker = t }
 
 abbrev pub limit_reached : ParserState → Bool
 limit_reached m = is_set m.call_tracker.limit_reached
+
+-- A stop at this state.
+abbrev pub halted : Cause → ParserState → Halted
+halted c m = record { cause = c; calls = m.call_tracker.calls }
 
 -- `inc_call_check_limit` and `check_stack_limit`, with `?`
 abbrev pub check_limit : (room count_call : Bool) → ParserState → (ParserState → Ending ParserState) → Ending ParserState
@@ -241,7 +257,8 @@ tag_node u m = if not (is_none m.lookahead) then Ok m else Ok (set_queue (tag_la
 module _ (g : Setting) (bounded : Bool) where
   -- `queue.push`
   abbrev pub push_token : (line : ℕ) → QueueableToken → ParserState → (ParserState → Ending ParserState) → Ending ParserState
-  push_token line t m k = stop_if (bounded && leb g.capacity (length m.queue)) (TokensFull line) (λ _. k (set_queue (m.queue ++ (t ∷ [])) m))
+  push_token line t m k =
+      stop_if (bounded && leb g.capacity (length m.queue)) (halted (TokensFull line) m) (λ _. k (set_queue (m.queue ++ (t ∷ [])) m))
 
   -- `attempts.push`, in `track`
   abbrev pub tracking : (due : Bool) → (line rule p pos_index neg_index prev_attempts : ℕ) → ParserState
@@ -252,7 +269,7 @@ module _ (g : Setting) (bounded : Bool) where
         | true ↦
             let n : ParserState = track r p pi ni prev m in
             stop_if (bounded && (ltb most_attempts (length n.pos_attempts) || ltb most_attempts (length n.neg_attempts)))
-            (AttemptsFull line) (λ _. k n)
+            (halted (AttemptsFull line) m) (λ _. k n)
       ]
 
   abbrev pub close_rule : (line rule index : ℕ) → ParserState → Ending ParserState
@@ -269,7 +286,7 @@ module _ (g : Setting) (bounded : Bool) where
   rule_end line r p index pi ni attempts (Ok m) = tracking (is_negative m.lookahead) line r p pi ni attempts m (λ t. close_rule line r index t)
   rule_end line r p index pi ni attempts (Err m) = tracking (not (is_negative m.lookahead)) line r p pi ni attempts m (λ t.
       Err (if produces t then set_queue (take index t.queue) t else t))
-  rule_end line r p index pi ni attempts (Stop c) = Stop c
+  rule_end line r p index pi ni attempts (Stop h) = Stop h
 
   abbrev pub rule_start : (line rule pos_index neg_index : ℕ) → (ParserState → Ending ParserState) → (before after : ParserState) → Ending ParserState
   rule_start line r pi ni f m n = rule_end line r m.position (length m.queue) pi ni (attempts_at m.position n) (f n)
@@ -287,7 +304,7 @@ module _ (g : Setting) (bounded : Bool) where
 abbrev pub sequence_end : (token_index initial_pos : ℕ) → Ending ParserState → Ending ParserState
 sequence_end i p (Ok m) = Ok (checkpoint_ok m)
 sequence_end i p (Err m) = Err (restored (set_queue (take i m.queue) (set_position p m)))
-sequence_end i p (Stop c) = Stop c
+sequence_end i p (Stop h) = Stop h
 
 abbrev pub sequence : (ParserState → Ending ParserState) → ParserState → Ending ParserState
 sequence f m = sequence_end (length m.queue) m.position (f (checkpoint m))
@@ -295,7 +312,7 @@ sequence f m = sequence_end (length m.queue) m.position (f (checkpoint m))
 abbrev pub round_end : Ending ParserState → (ParserState → Ending ParserState) → Ending ParserState
 round_end (Ok m) again = again m
 round_end (Err m) again = if limit_reached m then Err m else Ok m
-round_end (Stop c) again = Stop c
+round_end (Stop h) again = Stop h
 
 -- `loop`. A definition has to end, so the rounds are numbered, and `spent` is what a loop answers whose rounds are used up. In an
 -- accepted grammar they never are: a run's `ending` is the same for every `spent`, also if that is a stop like no other (`Demand2`, by the
@@ -313,7 +330,7 @@ repeat n f m = loop (λ t. Err t) n f m
 abbrev pub optional : Ending ParserState → Ending ParserState
 optional (Ok m) = Ok m
 optional (Err m) = if limit_reached m then Err m else Ok m
-optional (Stop c) = Stop c
+optional (Stop h) = Stop h
 
 abbrev pub lookahead_in : (is_positive : Bool) → Lookahead → Lookahead
 lookahead_in true Looks.None = Positive
@@ -330,7 +347,7 @@ lookahead_end positive l p (Ok m) =
 lookahead_end positive l p (Err m) =
     let n : ParserState = restored (set_lookahead l (set_position p m)) in
     if limit_reached n then Err n else if positive then Err n else Ok n
-lookahead_end positive l p (Stop c) = Stop c
+lookahead_end positive l p (Stop h) = Stop h
 
 abbrev pub lookahead : (is_positive : Bool) → (ParserState → Ending ParserState) → ParserState → Ending ParserState
 lookahead positive f m = lookahead_end positive m.lookahead m.position (f (checkpoint (set_lookahead (lookahead_in positive m.lookahead) m)))
@@ -353,7 +370,7 @@ toggle should a m = if should then set_atomicity a m else m
 abbrev pub atomic_end : (should_toggle : Bool) → Atomicity → Ending ParserState → Ending ParserState
 atomic_end t a (Ok m) = Ok (toggle t a m)
 atomic_end t a (Err m) = Err (toggle t a m)
-atomic_end t a (Stop c) = Stop c
+atomic_end t a (Stop h) = Stop h
 
 abbrev pub atomic : Atomicity → (ParserState → Ending ParserState) → ParserState → Ending ParserState
 atomic a f m =
@@ -363,7 +380,7 @@ atomic a f m =
 abbrev pub restore_on_err_end : Ending ParserState → Ending ParserState
 restore_on_err_end (Ok m) = Ok (checkpoint_ok m)
 restore_on_err_end (Err m) = Err (restored m)
-restore_on_err_end (Stop c) = Stop c
+restore_on_err_end (Stop h) = Stop h
 
 abbrev pub restore_on_err : (ParserState → Ending ParserState) → ParserState → Ending ParserState
 restore_on_err f m = restore_on_err_end (f (checkpoint m))
@@ -459,10 +476,10 @@ module _ (input : List ℕ) where
   module _ (bounded : Bool) where
     abbrev pub push_end : (line start : ℕ) → Ending ParserState → Ending ParserState
     push_end line start (Ok m) =
-        stop_if (bounded && leb most_entries (length m.stack.cache)) (StackFull line) (λ _.
+        stop_if (bounded && leb most_entries (length m.stack.cache)) (halted (StackFull line) m) (λ _.
         Ok (set_stack (push (record { start = start; end = m.position }) m.stack) m))
     push_end line start (Err m) = Err m
-    push_end line start (Stop c) = Stop c
+    push_end line start (Stop h) = Stop h
 
     abbrev pub stack_push : (line : ℕ) → (ParserState → Ending ParserState) → ParserState → Ending ParserState
     stack_push line f m = push_end line m.position (f m)
@@ -471,11 +488,11 @@ module _ (input : List ℕ) where
     abbrev pub popping : (line : ℕ) → Span → List Span → ParserState → (ParserState → Ending ParserState) → Ending ParserState
     popping line x rest m k =
         let v : Stack = pop x rest m.stack in
-        stop_if (bounded && ltb most_debt (debt v.lengths)) (StackFull line) (λ _. k (set_stack v m))
+        stop_if (bounded && ltb most_debt (debt v.lengths)) (halted (StackFull line) m) (λ _. k (set_stack v m))
 
     -- `expect("pop was called on empty stack")` is a stop
     abbrev pub stack_pop : (line : ℕ) → List Span → ParserState → Ending ParserState
-    stack_pop line [] m = Stop (EmptyStack line)
+    stack_pop line [] m = Stop (halted (EmptyStack line) m)
     stack_pop line (x ∷ rest) m = popping line x rest m (λ n. moved (match_string input (as_str input x) n.position) n)
 
     -- `while let Some(span) = self.stack.pop()`
@@ -524,7 +541,7 @@ module _ (g : Setting) (bounded : Bool) where
 
   -- Not reached: where no call may open, every entry is refused.
   abbrev pub no_deeper : Exp → ParserState → Ending ParserState
-  no_deeper e m = Err (set_call_tracker (record { current_call_limit = m.call_tracker.current_call_limit; limit_reached = Some LimitKind.Stack }) m)
+  no_deeper e m = Err (set_call_tracker (record m.call_tracker { limit_reached = Some LimitKind.Stack }) m)
 
   abbrev pub eval_with : (spent : ParserState → Ending ParserState) → (room : ℕ) → Exp → ParserState → Ending ParserState
   eval_with spent zero e m = level_with false no_deeper spent e m
@@ -569,7 +586,7 @@ pairs_of None m = Pairs m.queue
 abbrev pub result_of : Ending ParserState → Result
 result_of (Ok m) = pairs_of m.call_tracker.limit_reached m
 result_of (Err m) = error_of m.call_tracker.limit_reached m
-result_of (Stop c) = Panic
+result_of (Stop h) = Panic
 
 -- How pest's own evaluation of a root ends, in which nothing is bounded and no loop comes to `spent`.
 abbrev pub ending : (spent : ParserState → Ending ParserState) → Setting → (depth_limit call_limit : ℕ) → Exp → Ending ParserState

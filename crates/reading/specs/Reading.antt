@@ -9,10 +9,11 @@ use Rattle.reading.specs.declared.parser_state.Lookahead.TheVariants.{Positive, 
 use Rattle.reading.specs.declared.parser_state.Lookahead.TheVariants as Looks
 use Rattle.reading.specs.declared.parser_state.Atomicity.{Atomicity}
 use Rattle.reading.specs.declared.parser_state.Atomicity.TheVariants.{NonAtomic}
+use Rattle.reading.specs.declared.parser_state.Cause.{Cause}
 use Rattle.reading.specs.declared.parser_state.Cause.TheVariants.{EmptyStack, TokensFull, StackFull, AttemptsFull}
 use Rattle.reading.specs.declared.call_limit_tracker.LimitKind.{LimitKind}
 use Rattle.reading.specs.declared.call_limit_tracker.LimitKind.TheVariants.{Call, Stack}
-use Rattle.reading.specs.Ending.{Ending, Ok, Err, Stop, on_ok, on_err, stop_if, Span, Checkpoint, is_negative, is_none, is_atomic}
+use Rattle.reading.specs.Ending.{Halted, Ending, Ok, Err, Stop, on_ok, on_err, stop_if, Span, Checkpoint, is_negative, is_none, is_atomic}
 use Rattle.reading.specs.Grammar.{Exp, match_string, match_insensitive, match_range, skip, end_of_input, and_then, or_else, rule, sequence}
 use Rattle.reading.specs.Grammar.{repeat, optional, lookahead, atomic, stack_push, stack_pop, stack_match_peek_slice, stack_match_pop}
 use Rattle.reading.specs.Grammar.{restore_on_err, tag_node, call, RuleLine}
@@ -110,6 +111,17 @@ is_set (Some c) = true
 -- "an Err that comes with a limit cause"
 abbrev pub limited : State → Bool
 limited s = is_set s.tracker.cause
+
+-- Document 02, request 5: "the counted calls entered .. as a 64-bit number that stays at its largest once there"
+abbrev pub most_calls : ℕ
+most_calls = 18446744073709551615
+
+abbrev pub calls_in : Tracker → ℕ
+calls_in t = min t.counted most_calls
+
+-- A stop at this state.
+abbrev pub halted : Cause → State → Halted
+halted c s = record { cause = c; calls = calls_in s.tracker }
 
 -- ── Stack and checkpoints ──
 -- "A checkpoint's debt is its height less the lowest height while it was innermost"
@@ -209,7 +221,7 @@ tracking due line r p n s k =
       | false ↦ k s
       | true ↦
           let a : Attempts = tracked (is_negative s.lookahead) p r n s.attempts in
-          stop_if (attempts_full a) (AttemptsFull line) (λ _. k (with_attempts a s))
+          stop_if (attempts_full a) (halted (AttemptsFull line) s) (λ _. k (with_attempts a s))
     ]
 
 -- ── Rule ──
@@ -226,7 +238,7 @@ module _ (g : Setting) where
   abbrev pub closed : (rec : Bool) → (line rule : ℕ) → (before after : State) → Ending State
   closed false line r s t = Ok t
   closed true line r s t =
-      stop_if (no_token t) (TokensFull line) (λ _. Ok (with_siblings (add s.siblings r 0 s.position t.position t.siblings) s.outer t))
+      stop_if (no_token t) (halted (TokensFull line) t) (λ _. Ok (with_siblings (add s.siblings r 0 s.position t.position t.siblings) s.outer t))
 
   -- "Err adds none and drops its children; position stays where the failure left it."
   abbrev pub discarded : (rec : Bool) → (before after : State) → Ending State
@@ -236,7 +248,7 @@ module _ (g : Setting) where
   abbrev pub rule_end : (rec : Bool) → (line rule : ℕ) → Note → (before : State) → Ending State → Ending State
   rule_end rec line r n s (Ok t) = tracking (is_negative t.lookahead) line r s.position n t (λ u. closed rec line r s u)
   rule_end rec line r n s (Err t) = tracking (not (is_negative t.lookahead)) line r s.position n t (λ u. discarded rec s u)
-  rule_end rec line r n s (Stop c) = Stop c
+  rule_end rec line r n s (Stop h) = Stop h
 
   -- Inside an open recorded rule no sibling is there yet, and its Start is held.
   abbrev pub opened : State → State
@@ -247,7 +259,7 @@ module _ (g : Setting) where
       let n : Note = note_at s.position s.attempts in
       elim (recorded s) [
         | false ↦ rule_end false line r n s (body s)
-        | true ↦ stop_if (no_token s) (TokensFull line) (λ _. rule_end true line r n s (body (opened s)))
+        | true ↦ stop_if (no_token s) (halted (TokensFull line) s) (λ _. rule_end true line r n s (body (opened s)))
       ]
 
 -- ── The other combinators, as functions of the state at their start and their body's ending ──
@@ -255,13 +267,13 @@ module _ (g : Setting) where
 abbrev pub sequence_end : State → Ending State → Ending State
 sequence_end s (Ok t) = Ok (drop_checkpoint t)
 sequence_end s (Err t) = Err (restore_stack s.stack (at_position s.position (with_siblings (cut (count s.siblings) t.siblings) t.outer t)))
-sequence_end s (Stop c) = Stop c
+sequence_end s (Stop h) = Stop h
 
 -- "Repeat runs until Err and answers Ok; .. pass on an Err that comes with a limit cause"
 abbrev pub round_end : Ending State → (State → Ending State) → Ending State
 round_end (Ok t) again = again t
 round_end (Err t) again = if limited t then Err t else Ok t
-round_end (Stop c) again = Stop c
+round_end (Stop h) again = Stop h
 
 -- A definition has to end, so `fuel` bounds the rounds. In an accepted grammar it is never used up: the law `repeat_is_loop` of
 -- proofs/Loop says that the rounds are those of a loop with no bound, `Loops` of Ending.
@@ -273,7 +285,7 @@ rounds (suc n) body s = round_end (body s) (λ t. rounds n body t)
 abbrev pub optional_end : Ending State → Ending State
 optional_end (Ok t) = Ok t
 optional_end (Err t) = if limited t then Err t else Ok t
-optional_end (Stop c) = Stop c
+optional_end (Stop h) = Stop h
 
 -- "Negative inside Negative is Positive, positive inside Negative stays Negative, else it is as b says."
 abbrev pub lookahead_in : (positive : Bool) → Lookahead → Lookahead
@@ -292,27 +304,27 @@ back_to s t = restore_stack s.stack (with_lookahead s.lookahead (at_position s.p
 abbrev pub lookahead_end : (positive : Bool) → State → Ending State → Ending State
 lookahead_end positive s (Ok t) = if limited t then Err (back_to s t) else if positive then Ok (back_to s t) else Err (back_to s t)
 lookahead_end positive s (Err t) = if limited t then Err (back_to s t) else if positive then Err (back_to s t) else Ok (back_to s t)
-lookahead_end positive s (Stop c) = Stop c
+lookahead_end positive s (Stop h) = Stop h
 
 -- "Atomic restores atomicity."
 abbrev pub atomic_end : State → Ending State → Ending State
 atomic_end s (Ok t) = Ok (with_atomicity s.atomicity t)
 atomic_end s (Err t) = Err (with_atomicity s.atomicity t)
-atomic_end s (Stop c) = Stop c
+atomic_end s (Stop h) = Stop h
 
 -- "Push adds the span on Ok." "entry 129" stops.
 abbrev pub push_end : (line : ℕ) → State → Ending State → Ending State
 push_end line s (Ok t) =
-    stop_if (leb most_entries (length t.stack)) (StackFull line) (λ _.
+    stop_if (leb most_entries (length t.stack)) (halted (StackFull line) t) (λ _.
     Ok (with_stack (record { start = s.position; end = t.position } ∷ t.stack) t.checkpoints t))
 push_end line s (Err t) = Err t
-push_end line s (Stop c) = Stop c
+push_end line s (Stop h) = Stop h
 
 -- "Kind 18 restores the stack only, on Err."
 abbrev pub restore_end : State → Ending State → Ending State
 restore_end s (Ok t) = Ok (drop_checkpoint t)
 restore_end s (Err t) = Err (restore_stack s.stack t)
-restore_end s (Stop c) = Stop c
+restore_end s (Stop h) = Stop h
 
 -- ── Nodes that open no call ──
 -- A match: moved, or "A failed match moves nothing."
@@ -355,11 +367,11 @@ module _ (text : List ℕ) where
   abbrev pub popping : (line : ℕ) → (rest : List Span) → State → (State → Ending State) → Ending State
   popping line rest s k =
       let ks : List Checkpoint = lower_to (length rest) s.checkpoints in
-      stop_if (ltb most_debt (debt ks)) (StackFull line) (λ _. k (with_stack rest ks s))
+      stop_if (ltb most_debt (debt ks)) (halted (StackFull line) s) (λ _. k (with_stack rest ks s))
 
   -- "`stack_pop` matches what it pops"; "kind 15 on an empty stack" stops
   abbrev pub popped : (line : ℕ) → List Span → State → Ending State
-  popped line [] s = Stop (EmptyStack line)
+  popped line [] s = Stop (halted (EmptyStack line) s)
   popped line (v ∷ rest) s = popping line rest s (λ t. moved (after_entry v t.position) t)
 
   -- "`stack_match_pop` keeps popping entries until one fails to match; failing, both move nothing, and popped entries are gone.

@@ -1,5 +1,5 @@
 // What a run answers, and what is recorded of it.
-use engine::state::Outcome;
+use engine::state::RunOutcome;
 use std::fmt;
 
 // What no run writes: fills the areas before a run, so that what is left as it was can be seen.
@@ -10,6 +10,7 @@ pub(crate) struct Numbers {
     pub(crate) number: u32,
     pub(crate) place: u32,
     pub(crate) count: u32,
+    pub(crate) calls: u64,
 }
 
 impl Numbers {
@@ -19,19 +20,24 @@ impl Numbers {
     }
 }
 
-impl From<Outcome> for Numbers {
-    fn from(o: Outcome) -> Self {
+impl From<RunOutcome> for Numbers {
+    fn from(r: RunOutcome) -> Self {
         Numbers {
-            number: o.number,
-            place: o.place,
-            count: o.count,
+            number: r.outcome.number,
+            place: r.outcome.place,
+            count: r.outcome.count,
+            calls: r.calls,
         }
     }
 }
 
 impl fmt::Display for Numbers {
     fn fmt<W: fmt::Write>(&self, f: &mut fmt::Formatter<W>) -> fmt::Result {
-        write!(f, "{} {} {}", self.number, self.place, self.count)
+        write!(
+            f,
+            "{} {} {} calls {}",
+            self.number, self.place, self.count, self.calls
+        )
     }
 }
 

@@ -1,5 +1,5 @@
-// Replays the fixed list of answers (rust/README.md, "The binary form"): runs each recorded case and compares number, place, count and
-// both areas with the recorded ones, which are pest's wherever pest has an answer. Writes a line a file.
+// Replays the fixed list of answers (rust/README.md, "The binary form"): runs each recorded case and compares number, place, count, counted
+// calls and both areas with the recorded ones, which are pest's wherever pest has an answer. Writes a line a file.
 #![tactic(auto)]
 
 mod answer;

@@ -44,6 +44,7 @@ impl Head {
                 number: words.number()?,
                 place: words.number()?,
                 count: words.number()?,
+                calls: u64::from(words.long()?),
             },
             depth_limit: words.long()?,
             call_limit: words.long()?,

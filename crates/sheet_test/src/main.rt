@@ -4,7 +4,7 @@
 
 ghost use Rattle.std.specs.Prelude.{◌≤◌, length};
 
-use engine::state::Outcome;
+use engine::state::{Outcome, RunOutcome};
 use files::run_sheet::run_sheet;
 use sheet::listing::write_listing;
 use sheet::sheet::read_sheet;
@@ -291,7 +291,7 @@ struct Limits {
     calls: u32,
 }
 
-// Rule 7 over a sequence over `a`, through run_sheet: the outcome and the node area.
+// Rule 7 over a sequence over `a`, through run_sheet: the outcome, behind a semicolon the counted calls, and the node area.
 fn limited(
     rt: &impl Print,
     name: &str,
@@ -305,7 +305,7 @@ fn limited(
         *b"   9           1           0           0\n",
         *b"   8           7           2           0\n",
     ];
-    let o = run_sheet(
+    let RunOutcome { outcome, calls } = run_sheet(
         lines.as_flattened(),
         b"abc",
         b"a",
@@ -316,7 +316,7 @@ fn limited(
         report,
         scratch,
     );
-    println!(rt; "{name}: {}{}", Answer(o), Numbers(nodes))
+    println!(rt; "{name}: {}; {calls} |{}", Answer(outcome), Numbers(nodes))
 }
 
 // In areas of which one is too short.

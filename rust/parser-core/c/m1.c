@@ -1,5 +1,7 @@
 /* Document 01's M1 and M2 from C: reads the sheet, runs it on `a` and on `b`, and prints planread's
- * listing of each run. Ends with status 1 where the sheet is refused. */
+ * listing of each run and, behind it, its counted calls. Ends with status 1 where the sheet is
+ * refused. */
+#include <inttypes.h>
 #include <parser_core.h>
 #include <stdio.h>
 #include <string.h>
@@ -27,7 +29,7 @@ static void print_rules(uint32_t count) {
 }
 
 static void list(const char *text) {
-    parser_core_outcome o = parser_core_run(
+    parser_core_run_outcome o = parser_core_run(
         nodes, 16, (const uint8_t *)"abc", 3, (const uint8_t *)text, strlen(text),
         PARSER_CORE_DEEPEST, 0, tokens, 20, report, PARSER_CORE_REPORT, scratch, PARSER_CORE_SCRATCH);
     printf("%6u%6u%6u\n", o.number, o.place, o.count);
@@ -36,6 +38,7 @@ static void list(const char *text) {
     } else if (o.number == 10) {
         print_rules(o.count);
     }
+    printf("calls %" PRIu64 "\n", o.calls);
 }
 
 int main(void) {

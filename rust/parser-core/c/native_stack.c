@@ -36,7 +36,7 @@ int main(int argc, char **argv) {
         return 1;
     }
     write_grammar(atoi(argv[2]), atoi(argv[3]));
-    parser_core_outcome o = parser_core_run(
+    parser_core_run_outcome o = parser_core_run(
         nodes, 4 * (size_t)lines, NULL, 0, NULL, 0, (uint32_t)atoi(argv[1]), 0,
         tokens, 10 * PARSER_CORE_DEEPEST, report, PARSER_CORE_REPORT, scratch, PARSER_CORE_SCRATCH);
     printf("%6u%6u%6u\n", o.number, o.place, o.count);

@@ -1,19 +1,20 @@
 //! The proved parser core: document 01's `run` and `read_sheet`, on slices.
 //!
 //! Both are Rattle functions with no `requires`: whatever the slices and limits, number, place,
-//! count and what stands in the areas are those of document 01. Nothing is checked on this side.
+//! count and what stands in the areas are those of document 01, and the counted calls those of
+//! document 02. Nothing is checked on this side.
 //!
-//! Document 01's M1: rule 7 over `a`, then tag 3, on the text `a`.
+//! Document 01's M1: rule 7 over `a`, then tag 3, on the text `a`. The rule is its one counted call.
 //!
 //! ```
-//! use parser_core::{run, Outcome, DEEPEST, REPORT, SCRATCH};
+//! use parser_core::{run, RunOutcome, DEEPEST, REPORT, SCRATCH};
 //!
 //! let nodes = [1, 0, 1, 0, 8, 7, 1, 0, 19, 3, 0, 0, 6, 2, 3, 0];
 //! let (mut tokens, mut report, mut scratch) = ([9; 15], [9; REPORT], [9; SCRATCH]);
 //! let outcome =
 //!     run(&nodes, b"abc", b"a", DEEPEST, 0, &mut tokens, &mut report, &mut scratch);
 //!
-//! assert_eq!(outcome, Outcome { number: 0, place: 0, count: 2 });
+//! assert_eq!(outcome, RunOutcome { number: 0, place: 0, count: 2, calls: 1 });
 //! assert_eq!(tokens, [1, 1, 0, 0, 0, 2, 0, 1, 7, 3, 0, 0, 0, 0, 0]);
 //! assert_eq!(report, [0; REPORT]);
 //! ```
@@ -28,13 +29,27 @@ pub const REPORT: usize = 515;
 /// The fewest numbers of a scratch area.
 pub const SCRATCH: usize = 4_864;
 
-/// What a run or a sheet reading returns.
+/// What a sheet reading returns.
 #[repr(C)]
 #[derive(Clone, Copy, Debug, Eq, PartialEq)]
 pub struct Outcome {
     pub number: u32,
     pub place: u32,
     pub count: u32,
+}
+
+/// What a run returns.
+#[repr(C)]
+#[derive(Clone, Copy, Debug, Eq, PartialEq)]
+pub struct RunOutcome {
+    pub number: u32,
+    pub place: u32,
+    pub count: u32,
+    /// Counted calls that the run entered: lines of kinds 8 to 14, each time one is evaluated and no
+    /// limit refuses it; a repeat (10) once, however many rounds it has; kind 18 never. They are
+    /// counted with call limit 0 too, and up to the moment of a stop; 0 where the run was refused.
+    /// The number stays at its largest once there.
+    pub calls: u64,
 }
 
 extern "C" {
@@ -53,7 +68,7 @@ extern "C" {
         report_len: usize,
         scratch: *mut u32,
         scratch_len: usize,
-    ) -> Outcome;
+    ) -> RunOutcome;
 
     fn parser_core_read_sheet(
         sheet: *const u8,
@@ -68,6 +83,9 @@ extern "C" {
 /// A token takes five numbers of `tokens`. It needs room for the most tokens that are held at once,
 /// which can be more than the count that is returned: 14 else.
 ///
+/// A run that gave 0 or 10 gives the same with a larger depth limit, with call limit 0 and with every
+/// call limit from its `calls` on; with a smaller one above 0 it gives neither.
+///
 /// The run recurses natively: see [`on_large_stack`].
 #[allow(clippy::too_many_arguments)]
 pub fn run(
@@ -79,7 +97,7 @@ pub fn run(
     tokens: &mut [u32],
     report: &mut [u32],
     scratch: &mut [u32],
-) -> Outcome {
+) -> RunOutcome {
     // SAFETY: each pointer comes with the length of its own slice, and slices that are written
     // overlap no other.
     unsafe {

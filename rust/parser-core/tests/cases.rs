@@ -1,6 +1,6 @@
 //! The wrapper passes each slice with its own length: every refusal by number, and the areas.
 
-use parser_core::{on_large_stack, read_sheet, run, Outcome, DEEPEST, REPORT, SCRATCH};
+use parser_core::{on_large_stack, read_sheet, run, Outcome, RunOutcome, DEEPEST, REPORT, SCRATCH};
 
 const FILL: u32 = 9;
 /// Document 01's M1: rule 7 over `a`, then tag 3.
@@ -18,8 +18,12 @@ fn of(number: u32, place: u32, count: u32) -> Outcome {
     Outcome { number, place, count }
 }
 
+fn ran(number: u32, place: u32, count: u32, calls: u64) -> RunOutcome {
+    RunOutcome { number, place, count, calls }
+}
+
 /// What was returned, and tokens, report and scratch afterwards.
-type Answer = (Outcome, [Vec<u32>; 3]);
+type Answer = (RunOutcome, [Vec<u32>; 3]);
 
 fn answer(
     nodes: &[i32],
@@ -35,21 +39,21 @@ fn answer(
     (outcome, [tokens, report, scratch])
 }
 
-/// All areas of a refused run are as they were.
-fn refused(outcome: Outcome, given: Answer) {
-    assert_eq!(given.0, outcome);
+/// All areas of a refused run are as they were, and nothing was counted.
+fn refused(Outcome { number, place, count }: Outcome, given: Answer) {
+    assert_eq!(given.0, ran(number, place, count, 0));
     assert!(given.1.iter().flatten().all(|number| *number == FILL));
 }
 
 #[test]
 fn m1_and_m2() {
     let (outcome, [tokens, report, _]) = answer(&M1, b"abc", b"a", DEEPEST, ENOUGH);
-    assert_eq!(outcome, of(0, 0, 2));
+    assert_eq!(outcome, ran(0, 0, 2, 1));
     assert_eq!(tokens, [1, 1, 0, 0, 0, 2, 0, 1, 7, 3, 0, 0]);
     assert_eq!(report, [0; REPORT + 1]);
 
     let (outcome, [tokens, report, _]) = answer(&M1, b"abc", b"b", DEEPEST, ENOUGH);
-    assert_eq!(outcome, of(10, 0, 1));
+    assert_eq!(outcome, ran(10, 0, 1, 1));
     assert_eq!(tokens, [0; 12]);
     assert_eq!(report[..4], [0, 1, 0, 7]);
     assert_eq!(report[4..], [0; REPORT - 3]);
@@ -74,7 +78,7 @@ fn refusals_leave_the_areas() {
 fn no_room_for_a_token_is_14() {
     let tokens = Lengths { tokens: 9, ..ENOUGH };
     let (outcome, [tokens, report, _]) = answer(&M1, b"abc", b"a", DEEPEST, tokens);
-    assert_eq!(outcome, of(14, 2, 0));
+    assert_eq!(outcome, ran(14, 2, 0, 1));
     assert_eq!(tokens, [0; 9]);
     assert_eq!(report, [0; REPORT + 1]);
 }
@@ -84,10 +88,30 @@ fn no_room_for_a_token_is_14() {
 #[test]
 fn a_rule_that_fails_needs_room_for_its_start() {
     let nodes = [5, 0, 0, 0, 8, 7, 1, 0, 11, 2, 0, 0];
-    for (tokens, outcome) in [(4, of(14, 2, 0)), (5, of(0, 0, 0))] {
+    for (tokens, outcome) in [(4, ran(14, 2, 0, 2)), (5, ran(0, 0, 0, 2))] {
         let lengths = Lengths { tokens, ..ENOUGH };
         assert_eq!(answer(&nodes, b"", b"a", DEEPEST, lengths).0, outcome);
     }
+}
+
+/// A repeat over a sequence over `a`, on `aaa`: one call, and one for each of four rounds.
+#[test]
+fn calls_are_counted_with_and_without_a_limit() {
+    let nodes = [1, 0, 1, 0, 9, 1, 0, 0, 10, 2, 0, 0];
+    let limited = |depth_limit: u32, call_limit: u32| {
+        let (mut tokens, mut report, mut scratch) = ([0; 0], [0; REPORT], [0; SCRATCH]);
+        let [t, r, s] = [&mut tokens[..], &mut report, &mut scratch];
+        run(&nodes, b"a", b"aaa", depth_limit, call_limit, t, r, s)
+    };
+    for call_limit in [0, 5, 6, u32::MAX] {
+        assert_eq!(limited(2, call_limit), ran(0, 0, 0, 5));
+        assert_eq!(limited(DEEPEST, call_limit), ran(0, 0, 0, 5));
+    }
+    for call_limit in 1..5 {
+        assert_eq!(limited(2, call_limit), ran(11, 0, 0, call_limit.into()));
+    }
+    assert_eq!(limited(1, 0), ran(12, 0, 0, 1));
+    assert_eq!(limited(0, 5), ran(8, 0, 0, 0));
 }
 
 #[test]
@@ -125,5 +149,5 @@ fn a_deep_nest_fits_the_large_stack() {
     let nodes = nested(200);
     let lengths = Lengths { tokens: 5 * 1_024, ..ENOUGH };
     let (outcome, _) = on_large_stack(|| answer(&nodes, b"", b"", DEEPEST, lengths));
-    assert_eq!(outcome, of(12, 0, 0));
+    assert_eq!(outcome, ran(12, 0, 0, DEEPEST.into()));
 }

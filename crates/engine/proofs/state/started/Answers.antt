@@ -27,4 +27,4 @@ returns c =
     let ended = told _ _ _ c.packed_node-r.ensures (sym c.unpacked.ensures) in
     let ran = ran_is _ c.requires _ c.capacity_of-room.ensures _ (c.new-state.ensures _ _) _ ended in
     run_is _ c.requires c.packed_node-r.new.tokens c.packed_node-r.new.scratch c.packed_node-r.auto.tokens (sym c.packed_node-r.auto.scratch)
-    _ c.packed_node-r.new.s c.unpacked.result ran c.conclude.ensures
+    _ c.packed_node-r.new.s c.unpacked.result ran c.conclude.ensures refl
