@@ -24,9 +24,21 @@ MUTANTS = [
     ("0 with no tokens", LIB, "Outcome::new(0, 0, list.len())", "Outcome::new(0, 0, 0)"),
     ("count of pairs, not of tokens", LIB, "Outcome::new(0, 0, list.len())", "Outcome::new(0, 0, list.len() / 2)"),
     ("12 one call early", READING, "if self.open_calls >= self.limits.depth", "if self.open_calls + 1 >= self.limits.depth"),
-    ("11 one call late", READING, "self.calls == self.limits.call", "self.calls > self.limits.call"),
-    ("stack limit tested first", READING, "if counted && self.limits.call != 0 && self.calls == self.limits.call {", "if counted && self.open_calls < self.limits.depth && self.limits.call != 0 && self.calls == self.limits.call {"),
+    ("11 one call late", READING, "self.calls == u64::from(self.limits.call)", "self.calls > u64::from(self.limits.call)"),
+    ("stack limit tested first", READING, "if counted && self.limits.call != 0", "if counted && self.open_calls < self.limits.depth && self.limits.call != 0"),
     ("kind 18 counted", READING, "if !self.enter(false)", "if !self.enter(true)"),
+    ("kind 18 counted without a limit", READING, "        if counted {\n", "        if counted || self.limits.call == 0 {\n"),
+    ("a call refused by the call limit counted", READING, "            self.cause = Some(Cause::CallLimit);", "            self.cause = Some(Cause::CallLimit);\n            self.calls += 1;"),
+    ("a call refused by the depth limit counted", READING, "            self.cause = Some(Cause::StackLimit);", "            self.cause = Some(Cause::StackLimit);\n            self.calls += u64::from(counted);"),
+    ("a call refused for an earlier cause counted", READING, "        if self.cause.is_some() {\n            return false;", "        if self.cause.is_some() {\n            self.calls += u64::from(counted);\n            return false;"),
+    ("a repeat counted each round", READING, "while self.inside(body)? {}", "while self.inside(body)? {\n            self.calls += 1;\n        }"),
+    ("calls counted under a limit only", READING, "        if counted {\n", "        if counted && self.limits.call != 0 {\n"),
+    ("calls of 16 bits that wrap", LIB, "calls: reading.last.calls,", "calls: reading.last.calls & 0xFFFF,"),
+    ("calls of 16 bits that stay", LIB, "calls: reading.last.calls,", "calls: reading.last.calls.min(0xFFFF),"),
+    ("a stop forgets its calls", LIB, "calls: reading.last.calls,", "calls: if reading.ending.is_err() { 0 } else { reading.last.calls },"),
+    ("a limit forgets its calls", LIB, "calls: reading.last.calls,", "calls: if reading.last.cause.is_some() { 0 } else { reading.last.calls },"),
+    ("a refused run has a call", LIB, "count: count as u32, calls: 0 }", "count: count as u32, calls: 1 }"),
+    ("calls undone with a sequence", READING, "            self.position = position;\n            let cut", "            self.position = position;\n            self.calls -= 1;\n            let cut"),
     ("14 one token early", READING, "if self.held >= self.capacities.tokens", "if self.held + 1 >= self.capacities.tokens"),
     ("cut tokens stay held", READING, "self.held -= 2 * size(&cut);", "let _ = size(&cut);"),
     ("a rule's Err restores the position", READING, "        if ok {\n            self.take_token(line)?;", "        if !ok {\n            self.position = start;\n        }\n        if ok {\n            self.take_token(line)?;"),
@@ -74,6 +86,10 @@ REPLAY = ["target/release/answers", "--check", str(HERE.parent / "crates/replay/
 
 BUILD = ["cargo", "build", "-j1", "--release", "--offline", "-q", "--bin", "compare", "--bin", "answers"]
 QUICK = os.environ | {"CARGO_PROFILE_RELEASE_DEBUG": "0", "CARGO_PROFILE_RELEASE_OPT_LEVEL": "1"}
+# The copy stands elsewhere, so it is told where pest's files are.
+for folder in HERE.parents:
+    if (folder / "shared/docs/src/src/parser_state.rs").is_file():
+        QUICK.setdefault("PEST_SRC", str(folder / "shared/docs/src"))
 
 
 def refused(command):
@@ -83,7 +99,7 @@ def refused(command):
         return "no end"
     if done.returncode == 0:
         return None
-    found = re.search(r"DIFFERENCE ([^\n]*)|(\d+) failed|expected (\d+), not|(panicked at [^\n]*)", done.stdout + done.stderr)
+    found = re.search(r"DIFFERENCE ([^\n]*)|(\d+) failed|Expected [^\n]*, not|(panicked at [^\n]*)", done.stdout + done.stderr)
     return found.group(0)[:70] if found else "status %d" % done.returncode
 
 

@@ -7,7 +7,7 @@ use crate::case::Case;
 /// A file holds whole records and is never longer than this.
 pub const LONGEST_FILE: usize = 65_536;
 /// Words before a record's lists.
-const HEAD: usize = 22;
+const HEAD: usize = 24;
 /// Stands for a number that one word does not hold; two words follow.
 const WIDE: u16 = 0x8000;
 /// What fills a text up to its length.
@@ -37,6 +37,7 @@ impl Record {
 
         let mut words = vec![0, running];
         words.extend([self.outcome.number, self.outcome.place, self.outcome.count].map(word));
+        words.extend(pair(calls(self.outcome.calls)));
         words.extend(pair(self.case.depth_limit));
         words.extend(pair(self.case.call_limit));
         words.extend([self.case.tokens, self.case.report, self.case.scratch].map(length));
@@ -72,7 +73,8 @@ impl Record {
 
     fn decode(words: &[u16]) -> Record {
         let mut reader = Reader { words: &words[2..] };
-        let outcome = Outcome { number: reader.word(), place: reader.word(), count: reader.word() };
+        let [number, place, count] = [(); 3].map(|()| reader.word());
+        let outcome = Outcome { number, place, count, calls: reader.pair().into() };
         let (depth_limit, call_limit) = (reader.pair(), reader.pair());
         let [tokens, report, scratch] = [(); 3].map(|()| reader.word() as usize);
         let [nodes_given, nodes_in_all, literals_given] = [(); 3].map(|()| reader.word() as usize);
@@ -134,6 +136,10 @@ fn given<T: PartialEq>(items: &[T], filler: impl Fn(usize) -> T) -> usize {
 
 fn word(number: u32) -> u16 {
     u16::try_from(number).expect("numbers of an answer are below 65,536")
+}
+
+fn calls(count: u64) -> u32 {
+    u32::try_from(count).expect("no recorded run enters so many calls")
 }
 
 fn length(count: usize) -> u16 {
@@ -209,7 +215,7 @@ mod tests {
             text: [b"b".as_slice(), &[b'a'; 65_536]].concat(),
             ..Case::new(&nodes, "aé", "")
         };
-        let outcome = Outcome { number: 10, place: 65_535, count: 3 };
+        let outcome = Outcome { number: 10, place: 65_535, count: 3, calls: 0xFFFF_0001 };
         let (positives, negatives) = (vec![1, 65_535], vec![7]);
         let record = Record { case, outcome, tokens: vec![], positives, negatives };
         let file = [record.encode(1), record.encode(2)].concat();

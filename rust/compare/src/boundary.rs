@@ -1,6 +1,30 @@
 //! Cases that stand exactly on a limit, and one past it.
 
+use oracle::Outcome;
+
 use crate::case::Case;
+
+/// What document 01 gives a case: its number, and its counted calls if it is about them.
+#[derive(Clone, Copy, Debug)]
+pub struct Expected {
+    pub number: u32,
+    pub calls: Option<u64>,
+}
+
+impl Expected {
+    pub fn is(self, outcome: Outcome) -> bool {
+        outcome.number == self.number && self.calls.is_none_or(|calls| calls == outcome.calls)
+    }
+}
+
+/// All of them.
+pub fn expected() -> Vec<(Case, Expected)> {
+    let of = |number, calls| Expected { number, calls };
+    let cases = cases().into_iter().map(|(case, number)| (case, of(number, None)));
+    let counted =
+        counted().into_iter().map(|(case, number, calls)| (case, of(number, Some(calls))));
+    cases.chain(counted).collect()
+}
 
 /// Each with the number that document 01 gives it.
 pub fn cases() -> Vec<(Case, u32)> {
@@ -153,6 +177,137 @@ fn doubled(start: &[[i32; 4]], kind: i32, times: usize) -> Vec<[i32; 4]> {
         nodes.push([kind, last, last, 0]);
     }
     nodes
+}
+
+// Counted calls. Each case with its number and its calls.
+
+pub fn counted() -> Vec<(Case, u32, u64)> {
+    let mut all = Vec::new();
+    all.extend(counted_kinds());
+    all.extend(counted_rounds());
+    all.extend(counted_refusals());
+    all.extend(counted_limits());
+    all.extend(counted_stops());
+    all
+}
+
+const A: [i32; 4] = [1, 0, 1, 0];
+
+fn on_a(nodes: &[[i32; 4]]) -> Case {
+    Case::new(nodes, "a", "a")
+}
+
+/// Kinds 8 to 14 count, 18 and all others do not; what was undone stays counted.
+fn counted_kinds() -> Vec<(Case, u32, u64)> {
+    let over_a = |kind: i32| match kind {
+        8 => [8, 7, 1, 0],
+        _ => [kind, 1, i32::from(kind == 12), 0],
+    };
+    let once = (8..=14).map(|kind| (on_a(&[A, over_a(kind)]), 0, 1));
+    let undone = [A, [9, 1, 0, 0], [1, 1, 1, 0], [6, 2, 3, 0], [9, 4, 0, 0], [7, 5, 2, 0]];
+    let others = [
+        (on_a(&[A, over_a(18)]), 0, 0),
+        (on_a(&[A, over_a(18), [9, 2, 0, 0]]), 0, 1),
+        (on_a(&[A, over_a(9), [18, 2, 0, 0]]), 0, 1),
+        (on_a(&[A, over_a(8), [20, 2, 0, 0], [11, 3, 0, 0], [6, 2, 4, 0]]), 0, 3),
+        (on_a(&[A, [12, 1, 0, 0]]), 10, 1),
+        (Case::new(&undone, "ab", "ac"), 0, 3),
+    ];
+    once.chain(others).collect()
+}
+
+/// A repeat counts once, however many rounds it has, beside what its body enters in each.
+fn counted_rounds() -> Vec<(Case, u32, u64)> {
+    let rounds = |body: [i32; 4], count: usize| {
+        Case::new(&[A, body, [10, 2, 0, 0]], "a", &"a".repeat(count))
+    };
+    let (letter, rule, sequence, restoring) = (A, [8, 7, 1, 0], [9, 1, 0, 0], [18, 1, 0, 0]);
+    vec![
+        (rounds(letter, 0), 0, 1),
+        (rounds(letter, 39), 0, 1),
+        (rounds(letter, 65_535), 0, 1),
+        (rounds(restoring, 39), 0, 1),
+        // The round that ends it enters, too.
+        (rounds(rule, 9), 0, 11),
+        (rounds(sequence, 39), 0, 41),
+        // More than 16 bits hold.
+        (rounds(sequence, 65_535), 0, 65_537),
+        (Case { call_limit: 1, ..rounds(letter, 39) }, 0, 1),
+        (Case { call_limit: 40, ..rounds(sequence, 39) }, 11, 40),
+    ]
+}
+
+/// A refused entry is not counted: by either limit, nor after one; a refused run has no calls.
+fn counted_refusals() -> Vec<(Case, u32, u64)> {
+    let nested = on_a(&[A, [9, 1, 0, 0], [9, 2, 0, 0]]);
+    let then_another = on_a(&[A, [9, 1, 0, 0], [9, 2, 0, 0], [7, 3, 2, 0]]);
+    let restoring = on_a(&[A, [18, 1, 0, 0], [9, 2, 0, 0], [9, 3, 0, 0]]);
+    let of =
+        |case: &Case, depth_limit, call_limit| Case { depth_limit, call_limit, ..case.clone() };
+    vec![
+        (of(&nested, 2, 1), 11, 1),
+        (of(&nested, 1, 0), 12, 1),
+        (of(&nested, 1, 9), 12, 1),
+        (of(&nested, 1, 1), 11, 1),
+        (of(&then_another, 2, 1), 11, 1),
+        (of(&then_another, 1, 0), 12, 1),
+        (of(&restoring, 2, 0), 12, 2),
+        (of(&restoring, 1_024, 2), 0, 2),
+        (of(&nested, 0, 0), 8, 0),
+        (Case { literals: vec![0xFF], ..nested.clone() }, 4, 0),
+        (Case { nodes: Vec::new(), ..nested.clone() }, 5, 0),
+        (on_a(&[A, [11, 1, 0, 0], [10, 2, 0, 0]]), 6, 0),
+        (Case { text: vec![0xFF], ..nested.clone() }, 7, 0),
+        (Case { report: oracle::REPORT - 1, ..nested }, 9, 0),
+    ]
+}
+
+/// Limits at the count, one below, one above, and none; of a run that matches and of one that fails.
+fn counted_limits() -> Vec<(Case, u32, u64)> {
+    let nested = [A, [9, 1, 0, 0], [8, 7, 2, 0], [11, 3, 0, 0], [14, 4, 0, 0], [5, 0, 0, 0]];
+    let matches = on_a(&[&nested[..], &[[6, 5, 6, 0]]].concat());
+    let fails = Case { text: b"aa".to_vec(), ..matches.clone() };
+    let mut all = Vec::new();
+    for (case, number) in [(matches, 0), (fails, 10)] {
+        let of = |call_limit| Case { call_limit, ..case.clone() };
+        for call_limit in [0, 4, 5, u32::MAX] {
+            all.push((of(call_limit), number, 4));
+        }
+        for call_limit in 1..4 {
+            all.push((of(call_limit), 11, call_limit.into()));
+        }
+    }
+    all
+}
+
+/// Each stop, with the calls until then.
+fn counted_stops() -> Vec<(Case, u32, u64)> {
+    let pop = [15, 0, 0, 0];
+    let two_pairs = doubled(&[[4, 0, 0, 0], [8, 7, 1, 0]], 6, 1);
+    let tokens = |area: usize| Case { tokens: area, ..Case::new(&two_pairs, "", "") };
+    let pushes = doubled(&[[4, 0, 0, 0], [14, 1, 0, 0]], 6, 8);
+    let attempts = doubled(&[A, [8, 7, 1, 0]], 7, 9);
+    let case = |nodes: &[[i32; 4]]| Case::new(nodes, "a", "");
+    vec![
+        (case(&[pop]), 13, 0),
+        (case(&[pop, [8, 7, 1, 0], [9, 2, 0, 0]]), 13, 2),
+        (Case { call_limit: 2, ..case(&[pop, [8, 7, 1, 0], [9, 2, 0, 0]]) }, 13, 2),
+        // The refused call sets its cause, and the pop comes behind it.
+        (
+            Case { call_limit: 1, ..case(&[A, [9, 1, 0, 0], [9, 2, 0, 0], pop, [7, 3, 4, 0]]) },
+            13,
+            1,
+        ),
+        (tokens(4), 14, 1),
+        (tokens(9), 14, 1),
+        (tokens(14), 14, 2),
+        (tokens(19), 14, 2),
+        (tokens(20), 0, 2),
+        (case(&pushes), 15, 129),
+        // A letter's rule, 128 pushes, sequence and optional, eight times; in the ninth no optional.
+        (debt(9), 15, 8 * 131 + 130),
+        (case(&attempts), 16, 257),
+    ]
 }
 
 // Debts. Each sheet begins with a line 9 that pushes 128 entries, a line 10 that pops all there

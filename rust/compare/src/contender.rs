@@ -41,7 +41,7 @@ mod library {
         fn run(&mut self, case: &Case, areas: &mut Areas) -> Outcome {
             self.scratch.resize(case.scratch, FILL);
             self.before.clone_from(&self.scratch);
-            let parser_core::Outcome { number, place, count } = parser_core::run(
+            let parser_core::RunOutcome { number, place, count, calls } = parser_core::run(
                 &case.nodes,
                 &case.literals,
                 &case.text,
@@ -51,7 +51,7 @@ mod library {
                 &mut areas.report,
                 &mut self.scratch,
             );
-            Outcome { number, place, count }
+            Outcome { number, place, count, calls }
         }
 
         fn left_scratch(&self) -> bool {

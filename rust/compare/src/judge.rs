@@ -1,24 +1,29 @@
 //! What is compared on a case.
 //!
 //! The oracle answers each case. Where a run was started, pest is asked:
-//! - after 0, 10, 11 and 12: outcome, queue, sorted rules, limit and furthest position;
+//! - after 0, 10, 11 and 12: outcome, queue, sorted rules, limit, furthest position, counted calls;
 //! - after 13 to 16: the run is repeated in pest with its state looked at, and has to be stopped
-//!   at the same line for the same reason; after 14 to 16 pest's own end is also compared with
-//!   the reading without capacities.
+//!   at the same line for the same reason after the same calls; after 14 to 16 pest's own end is
+//!   also compared with the reading without capacities.
+//!
+//! A started case is run again with other limits (`limits.rs`), and each such run is compared as a
+//! case of its own.
 //!
 //! A plain grammar's 0 and 10 are also held against Ford's relation.
 //!
 //! A watched case is read once more with small capacities, on both sides, and pest's whole
 //! private state at the end is compared too.
 
-use std::fmt;
+use std::{fmt, mem};
 
 use oracle::{ford, Cause, Outcome};
+use reference::count::{counted_state, Calls};
 use reference::watch::{self, state_within};
 use reference::{Ending, Limit, Sheet};
 
 use crate::case::{Areas, Case, FILL};
 use crate::contender::Contender;
+use crate::limits::{self, Law};
 
 /// Lines evaluated before a case is given up: backtracking may be exponential.
 pub const STEPS: u64 = 20_000;
@@ -38,6 +43,9 @@ impl fmt::Display for Difference {
     }
 }
 
+/// What pest comes to within capacities.
+type Within = Result<(Ending, watch::Final), watch::Stop>;
+
 /// Sixteen numbers, and cases given up.
 #[derive(Clone, Default)]
 pub struct Tally {
@@ -46,8 +54,12 @@ pub struct Tally {
     /// Runs of pest that were compared: plain, and with its state looked at.
     pub pest: u64,
     pub watched: u64,
+    /// Stops for which pest's state was not looked at, since that would take too long.
+    pub unseen: u64,
     /// Plain grammars held against Ford's relation.
     pub ford: u64,
+    /// Runs with other limits, which are no cases.
+    pub again: u64,
 }
 
 impl Tally {
@@ -62,7 +74,9 @@ impl Tally {
         self.given_up += other.given_up;
         self.pest += other.pest;
         self.watched += other.watched;
+        self.unseen += other.unseen;
         self.ford += other.ford;
+        self.again += other.again;
     }
 }
 
@@ -74,13 +88,18 @@ impl fmt::Display for Tally {
         }
         write!(f, "; given up: {}; ", self.given_up)?;
         write!(f, "runs of pest compared: {}, of these watched: {}; ", self.pest, self.watched)?;
-        write!(f, "plain ones held against Ford: {}", self.ford)
+        write!(f, "stops not looked at in pest: {}; ", self.unseen)?;
+        write!(f, "plain ones held against Ford: {}; ", self.ford)?;
+        write!(f, "runs with other limits: {}", self.again)
     }
 }
 
 pub struct Judge {
     contenders: Vec<Box<dyn Contender>>,
+    /// The oracle's, of the last run and of the case's first.
     areas: Areas,
+    first: Areas,
+    /// A contender's.
     others: Areas,
     pub steps: u64,
     pub tally: Tally,
@@ -91,6 +110,7 @@ impl Judge {
         Judge {
             contenders,
             areas: Areas::default(),
+            first: Areas::default(),
             others: Areas::default(),
             steps: STEPS,
             tally: Tally::default(),
@@ -103,40 +123,98 @@ impl Judge {
         case: &Case,
         small: Option<oracle::Capacities>,
     ) -> Result<Option<Outcome>, Difference> {
-        self.areas.prepare(case);
-        let Areas { tokens, report } = &mut self.areas;
-        let outcome = oracle::run_within(self.steps, case.input(), tokens, report, case.scratch);
-        let Some(outcome) = outcome else {
+        let Some(outcome) = self.answer(case) else {
             self.tally.given_up += 1;
             return Ok(None);
         };
         self.tally.numbers[outcome.number as usize] += 1;
+        self.check(case, outcome)?;
+        if !(4..=9).contains(&outcome.number) {
+            self.check_started(case, outcome, small)?;
+        }
+        Ok(Some(outcome))
+    }
+
+    /// What is seen of a started run besides.
+    fn check_started(
+        &mut self,
+        case: &Case,
+        outcome: Outcome,
+        small: Option<oracle::Capacities>,
+    ) -> Result<(), Difference> {
+        if limits::is_promised(outcome) {
+            self.check_ford(case, outcome)?;
+        }
+        self.check_limits(case, outcome)?;
+        if let Some(small) = small {
+            self.check_within(case, small, WATCHED_STEPS)?;
+        }
+        Ok(())
+    }
+
+    /// The oracle's answer, its areas in `areas`.
+    fn answer(&mut self, case: &Case) -> Option<Outcome> {
+        self.areas.prepare(case);
+        let Areas { tokens, report } = &mut self.areas;
+        oracle::run_within(self.steps, case.input(), tokens, report, case.scratch)
+    }
+
+    /// pest's and every contender's answer is the oracle's.
+    fn check(&mut self, case: &Case, outcome: Outcome) -> Result<(), Difference> {
+        if !limits::bounds_calls(case, outcome) {
+            return different("calls and their limit", &outcome, &case.call_limit);
+        }
         match outcome.number {
             4..=9 => check_untouched(&self.areas)?,
             0 | 10..=12 => self.check_plain(case, outcome)?,
             _ => self.check_stopped(case, outcome)?,
         }
-        if let (Some(small), false) = (small, (4..=9).contains(&outcome.number)) {
-            self.check_within(case, small, WATCHED_STEPS)?;
-        }
-        self.check_contenders(case, outcome)?;
-        Ok(Some(outcome))
+        self.check_contenders(case, outcome)
     }
 
     /// pest's answer is the oracle's, outcome and areas.
     fn check_plain(&mut self, case: &Case, outcome: Outcome) -> Result<(), Difference> {
         self.tally.pest += 1;
-        let sheet = Sheet::new(&case.nodes, literals(case));
-        let ending = reference::state(&sheet, text(case), case.depth_limit, case.call_limit);
-        check_answer(&ending, outcome, &self.areas)?;
-        self.check_ford(case, outcome)
+        let (ending, calls) = pest(case);
+        check_calls(calls, outcome.calls, case.call_limit)?;
+        check_answer(&ending, outcome, &self.areas)
+    }
+
+    /// What other limits leave as it is, and what they do not.
+    fn check_limits(&mut self, case: &Case, outcome: Outcome) -> Result<(), Difference> {
+        mem::swap(&mut self.areas, &mut self.first);
+        let mut again = case.clone();
+        for (limits, law) in limits::others(case, outcome) {
+            self.tally.again += 1;
+            (again.depth_limit, again.call_limit) = (limits.depth, limits.call);
+            self.check_again(&again, outcome, law)
+                .map_err(|Difference(what)| Difference(format!("with {limits:?}: {what}")))?;
+        }
+        Ok(())
+    }
+
+    /// The case with other limits: the law first, then everyone.
+    fn check_again(&mut self, again: &Case, first: Outcome, law: Law) -> Result<(), Difference> {
+        let Some(other) = self.answer(again) else {
+            return match law {
+                Law::Same => different("given up, and not before", &law, &first),
+                Law::OneShort | Law::Free => Ok(()),
+            };
+        };
+        if !law.allows(first, other) {
+            return different(&format!("{law:?}"), &other, &first);
+        }
+        if law == Law::Same && self.areas != self.first {
+            return different(&format!("{law:?}"), &self.areas, &self.first);
+        }
+        self.check(again, other)
     }
 
     /// 0 where Ford's relation consumes just the prefix before the final position, 10 where it
     /// fails.
     fn check_ford(&mut self, case: &Case, outcome: Outcome) -> Result<(), Difference> {
         let nodes = oracle::nodes_of(case.input());
-        if outcome.number > 10 || !ford::is_plain(&nodes) {
+        if !ford::is_plain(&nodes) {
             return Ok(());
         }
         self.tally.ford += 1;
@@ -151,14 +229,29 @@ impl Judge {
 
     fn check_stopped(&mut self, case: &Case, outcome: Outcome) -> Result<(), Difference> {
         check_zeroed(&self.areas)?;
-        if case.tokens <= MOST_WATCHED {
-            let steps = self.steps.min(STOPPED_STEPS);
-            self.check_within(case, oracle::Capacities::of(case.tokens), steps)?;
-        }
+        self.check_stop(case, outcome)?;
         if outcome.number == 13 {
             return Ok(());
         }
         self.check_unbounded(case)
+    }
+
+    /// pest within the document's capacities stops as the outcome says.
+    fn check_stop(&mut self, case: &Case, outcome: Outcome) -> Result<(), Difference> {
+        let within = oracle::Capacities::of(case.tokens);
+        let steps = self.steps.min(STOPPED_STEPS);
+        let pest = match case.tokens {
+            0..=MOST_WATCHED => self.check_within(case, within, steps)?,
+            _ => None,
+        };
+        let Some(pest) = pest else {
+            self.tally.unseen += 1;
+            return Ok(());
+        };
+        match &pest {
+            Err(stop) if is_outcome(stop, outcome) => Ok(()),
+            _ => different("stop: pest and the oracle", &pest, &outcome),
+        }
     }
 
     /// The reading without capacities is pest, also where the run itself had to stop.
@@ -168,24 +261,24 @@ impl Judge {
             return Ok(());
         }
         self.tally.pest += 1;
-        let sheet = Sheet::new(&case.nodes, literals(case));
-        let ending = reference::state(&sheet, text(case), case.depth_limit, case.call_limit);
+        let (ending, calls) = pest(case);
         if ending != ending_of(&reading) {
             return different("without capacities", &ending, &ending_of(&reading));
         }
-        Ok(())
+        check_calls(calls, reading.last.calls, case.call_limit)
     }
 
-    /// Stops at the same line for the same reason, or else the whole end state is the same.
+    /// Stops at the same line for the same reason after the same calls, or else the whole end state
+    /// is the same: what pest came to. None where that takes too long, and nothing was compared.
     fn check_within(
         &mut self,
         case: &Case,
         capacities: oracle::Capacities,
         steps: u64,
-    ) -> Result<(), Difference> {
+    ) -> Result<Option<Within>, Difference> {
         let reading = read(case, capacities, steps);
         if reading.ending == Err(oracle::Stop::OutOfSteps) {
-            return Ok(());
+            return Ok(None);
         }
         self.tally.pest += 1;
         self.tally.watched += 1;
@@ -200,14 +293,15 @@ impl Judge {
         let ours = match reading.ending {
             Err(stop) => {
                 let (number, line) = stop.number_and_line();
-                Err(watch::Stop { number, line: line as u32 })
+                let calls = Calls::both(reading.last.calls, case.call_limit);
+                Err(watch::Stop { number, line: line as u32, calls })
             }
             Ok(ok) => Ok((ending_of(&reading), final_of(ok, &reading.last, case.call_limit))),
         };
         if pest != ours {
             return different(&format!("within {capacities:?}"), &pest, &ours);
         }
-        Ok(())
+        Ok(Some(pest))
     }
 
     fn check_contenders(&mut self, case: &Case, outcome: Outcome) -> Result<(), Difference> {
@@ -231,6 +325,12 @@ impl Judge {
 fn read(case: &Case, capacities: oracle::Capacities, steps: u64) -> oracle::Reading {
     let input = case.input();
     oracle::read(&oracle::nodes_of(input), input, capacities, steps)
+}
+
+/// pest's own end, and its counted calls.
+pub fn pest(case: &Case) -> (Ending, Calls) {
+    let sheet = Sheet::new(&case.nodes, literals(case));
+    counted_state(&sheet, text(case), case.depth_limit, case.call_limit)
 }
 
 // A started run's texts are UTF-8: it passed tests 4 and 7.
@@ -257,9 +357,21 @@ fn check_zeroed(areas: &Areas) -> Result<(), Difference> {
     Ok(())
 }
 
+fn is_outcome(stop: &watch::Stop, outcome: Outcome) -> bool {
+    let Outcome { number, place, count, calls } = outcome;
+    (stop.number, stop.line, 0, stop.calls.driven) == (number, place, count, calls)
+}
+
+fn check_calls(calls: Calls, ours: u64, call_limit: u32) -> Result<(), Difference> {
+    if calls != Calls::both(ours, call_limit) {
+        return different("counted calls: pest and the oracle", &calls, &ours);
+    }
+    Ok(())
+}
+
 /// Outcome and areas, laid out here a second time from what pest gave.
 fn check_answer(ending: &Ending, outcome: Outcome, areas: &Areas) -> Result<(), Difference> {
-    let (expected, tokens, report) = laid_out(ending);
+    let (expected, tokens, report) = laid_out(ending, outcome.calls);
     if expected != outcome {
         return different("outcome: pest and the oracle", ending, &outcome);
     }
@@ -272,25 +384,24 @@ fn check_answer(ending: &Ending, outcome: Outcome, areas: &Areas) -> Result<(), 
     Ok(())
 }
 
-/// Number, place, count; what the tokens area holds; what the report area holds.
-pub fn laid_out(ending: &Ending) -> (Outcome, Vec<u32>, Vec<u32>) {
+/// The outcome of a run with so many calls; what the tokens area holds; what the report area holds.
+pub fn laid_out(ending: &Ending, calls: u64) -> (Outcome, Vec<u32>, Vec<u32>) {
+    let outcome = |number, place, count| Outcome { number, place, count, calls };
     match ending {
         Ending::Parsed { tokens } => {
-            let outcome = Outcome { number: 0, place: 0, count: tokens.len() as u32 };
-            (outcome, tokens.concat(), Vec::new())
+            (outcome(0, 0, tokens.len() as u32), tokens.concat(), Vec::new())
         }
         Ending::Failed { furthest, positives, negatives } => {
             let (p, n) = (positives.len() as u32, negatives.len() as u32);
-            let outcome = Outcome { number: 10, place: *furthest, count: p + n };
             let report = [&[*furthest, p, n][..], positives, negatives].concat();
-            (outcome, Vec::new(), report)
+            (outcome(10, *furthest, p + n), Vec::new(), report)
         }
         Ending::Limited { limit, furthest } => {
             let number = match limit {
                 Limit::Call => 11,
                 Limit::Stack => 12,
             };
-            (Outcome { number, place: *furthest, count: 0 }, Vec::new(), Vec::new())
+            (outcome(number, *furthest, 0), Vec::new(), Vec::new())
         }
     }
 }
@@ -335,7 +446,7 @@ fn final_of(ok: bool, last: &oracle::Final, call_limit: u32) -> watch::Final {
         positives: last.positives.clone(),
         negatives: last.negatives.clone(),
         furthest: last.furthest as u32,
-        calls: (call_limit != 0).then_some(last.calls),
+        calls: Calls::both(last.calls, call_limit),
         lookahead_none: true,
         non_atomic: true,
         checkpoints: 0,
@@ -358,9 +469,10 @@ mod tests {
         stack::with_large_stack(|| {
             let mut judge = Judge::new(Vec::new());
             judge.steps = 100_000_000;
-            for (case, expected) in boundary::cases() {
+            for (case, expected) in boundary::expected() {
                 let outcome = judge.judge(&case, None).unwrap_or_else(|e| panic!("{e}\n{case}"));
-                assert_eq!(outcome.map(|outcome| outcome.number), Some(expected), "{case}");
+                let outcome = outcome.expect("there is patience for each");
+                assert!(expected.is(outcome), "{expected:?}, not {outcome:?}:\n{case}");
             }
         });
     }

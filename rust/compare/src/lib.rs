@@ -9,6 +9,7 @@ pub mod damage;
 pub mod exhaustive;
 pub mod grammars;
 pub mod judge;
+pub mod limits;
 pub mod minimise;
 pub mod probe;
 pub mod random;

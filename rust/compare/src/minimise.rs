@@ -2,6 +2,9 @@
 
 use crate::case::Case;
 
+/// Bytes of a text that is long.
+const LONG: usize = 200;
+
 /// The smallest case found for which `fails` still holds.
 pub fn minimise(case: &Case, fails: &mut dyn FnMut(&Case) -> bool) -> Case {
     let mut best = case.clone();
@@ -18,8 +21,10 @@ fn smaller_ones(case: &Case) -> Vec<Case> {
         all.extend(without_line(case, line));
         all.extend(simpler_line(case, line));
     }
-    for at in 0..case.text.len() {
-        all.extend(without_character(case, at));
+    if case.text.len() > LONG {
+        all.extend(shorter_texts(case));
+    } else {
+        all.extend((0..case.text.len()).filter_map(|at| without_character(case, at)));
     }
     let mut with = |change: &dyn Fn(&mut Case)| {
         let mut other = case.clone();
@@ -34,6 +39,14 @@ fn smaller_ones(case: &Case) -> Vec<Case> {
     with(&|case| case.report = oracle::REPORT);
     with(&|case| case.scratch = oracle::SCRATCH);
     all
+}
+
+/// A long text loses a tail only, a half of it down to its last byte: it has too many characters to
+/// try each.
+fn shorter_texts(case: &Case) -> impl Iterator<Item = Case> + '_ {
+    let length = case.text.len();
+    let tails = (1..usize::BITS).map(move |halves| length >> halves).take_while(|tail| *tail > 0);
+    tails.map(move |tail| Case { text: case.text[..length - tail].to_vec(), ..case.clone() })
 }
 
 /// What names the line names its first child instead, and the line goes.

@@ -40,11 +40,14 @@ pub struct Outcome {
     pub number: u32,
     pub place: u32,
     pub count: u32,
+    /// Counted calls entered, up to a stop too; stays at its largest once there.
+    pub calls: u64,
 }
 
 impl Outcome {
+    /// With no call entered, as in a refused run.
     fn new(number: u32, place: usize, count: usize) -> Outcome {
-        Outcome { number, place: place as u32, count: count as u32 }
+        Outcome { number, place: place as u32, count: count as u32, calls: 0 }
     }
 }
 
@@ -69,7 +72,7 @@ pub fn run_within(
     if reading.ending == Err(Stop::OutOfSteps) {
         return None;
     }
-    Some(lay_out(&reading, tokens, report))
+    Some(Outcome { calls: reading.last.calls, ..lay_out(&reading, tokens, report) })
 }
 
 /// Tests 4 to 9, in order.
@@ -104,7 +107,7 @@ pub fn nodes_of(input: Input<'_>) -> Vec<Node> {
     input.nodes.chunks_exact(4).map(Node::new).collect()
 }
 
-/// The table's row for a started run: what it returns, and what stands in both areas.
+/// The table's row for a started run: number, place and count, and what stands in both areas.
 fn lay_out(reading: &Reading, tokens: &mut [u32], report: &mut [u32]) -> Outcome {
     tokens.fill(0);
     report.fill(0);

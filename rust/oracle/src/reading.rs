@@ -120,7 +120,7 @@ pub struct Final {
     pub negatives: Vec<u32>,
     pub furthest: usize,
     pub cause: Option<Cause>,
-    pub calls: u32,
+    pub calls: u64,
 }
 
 /// Reads the text by the last line. The sheet has passed its tests.
@@ -180,7 +180,8 @@ struct Reader<'a> {
     siblings: Forest,
     lookahead: Lookahead,
     atomicity: Atomicity,
-    calls: u32,
+    /// Counted calls entered, whatever the limit.
+    calls: u64,
     cause: Option<Cause>,
     positives: Vec<u32>,
     negatives: Vec<u32>,
@@ -254,12 +255,12 @@ impl Reader<'_> {
 
     // The call tracker.
 
-    /// A refused entry answers Err before all else in its combinator.
+    /// A refused entry answers Err before all else in its combinator, and is not counted.
     fn enter(&mut self, counted: bool) -> bool {
         if self.cause.is_some() {
             return false;
         }
-        if counted && self.limits.call != 0 && self.calls == self.limits.call {
+        if counted && self.limits.call != 0 && self.calls == u64::from(self.limits.call) {
             self.cause = Some(Cause::CallLimit);
             return false;
         }
@@ -267,8 +268,8 @@ impl Reader<'_> {
             self.cause = Some(Cause::StackLimit);
             return false;
         }
-        if counted && self.limits.call != 0 {
-            self.calls += 1;
+        if counted {
+            self.calls = self.calls.saturating_add(1);
         }
         true
     }

@@ -1,35 +1,35 @@
 //! One method of pest a line. A call is open while its closure is being evaluated.
 
+use std::mem;
+
 use pest::{ParseResult, ParserState};
 
 use crate::sheet::{Line, LineNumber, Rule, Sheet};
 use crate::State;
 
-/// Someone who looks at pest's state while it is driven.
+/// Someone who looks at pest's state while it is driven. What is not looked at costs nothing.
 pub trait Watch {
+    /// A call of kinds 8 to 14 was entered: pest is in its closure, of a repeat in the first round.
+    #[inline]
+    fn counted(&self) {}
     /// A rule's body is about to be evaluated.
-    fn rule_entered(&self, line: usize, state: &ParserState<'_, Rule>);
+    #[inline]
+    fn rule_entered(&self, _line: usize, _state: &ParserState<'_, Rule>) {}
     /// The stack is about to be popped by kind 15.
-    fn popping(&self, line: usize, state: &ParserState<'_, Rule>);
+    #[inline]
+    fn popping(&self, _line: usize, _state: &ParserState<'_, Rule>) {}
     /// A rule, a push or a pop was left.
-    fn left(&self, line: usize, state: &ParserState<'_, Rule>);
+    #[inline]
+    fn left(&self, _line: usize, _state: &ParserState<'_, Rule>) {}
     /// The root was left, `ok` or not.
-    fn ended(&self, ok: bool, state: &ParserState<'_, Rule>);
+    #[inline]
+    fn ended(&self, _ok: bool, _state: &ParserState<'_, Rule>) {}
 }
 
 /// Nobody looks.
 pub struct Unwatched;
 
-impl Watch for Unwatched {
-    #[inline]
-    fn rule_entered(&self, _: usize, _: &ParserState<'_, Rule>) {}
-    #[inline]
-    fn popping(&self, _: usize, _: &ParserState<'_, Rule>) {}
-    #[inline]
-    fn left(&self, _: usize, _: &ParserState<'_, Rule>) {}
-    #[inline]
-    fn ended(&self, _: bool, _: &ParserState<'_, Rule>) {}
-}
+impl Watch for Unwatched {}
 
 pub(crate) struct Driver<'s, 'l, W> {
     pub sheet: &'s Sheet<'l>,
@@ -55,22 +55,31 @@ impl<W: Watch> Driver<'_, '_, W> {
             Line::OrElse(a, b) => self.node(a, state).or_else(|state| self.node(b, state)),
             Line::Rule(rule, body) => {
                 let result = state.rule(rule, |state| {
+                    self.watch.counted();
                     self.watch.rule_entered(number, &state);
                     self.body(body, state)
                 });
                 self.left(number, result)
             }
-            Line::Sequence(body) => state.sequence(|state| self.body(body, state)),
-            Line::Repeat(body) => state.repeat(|state| self.body(body, state)),
-            Line::Optional(body) => state.optional(|state| self.body(body, state)),
+            Line::Sequence(body) => state.sequence(|state| self.counted_body(body, state)),
+            Line::Repeat(body) => {
+                let mut is_first = true;
+                state.repeat(|state| {
+                    if mem::take(&mut is_first) {
+                        self.watch.counted();
+                    }
+                    self.body(body, state)
+                })
+            }
+            Line::Optional(body) => state.optional(|state| self.counted_body(body, state)),
             Line::Lookahead(is_positive, body) => {
-                state.lookahead(is_positive, |state| self.body(body, state))
+                state.lookahead(is_positive, |state| self.counted_body(body, state))
             }
             Line::Atomic(atomicity, body) => {
-                state.atomic(atomicity, |state| self.body(body, state))
+                state.atomic(atomicity, |state| self.counted_body(body, state))
             }
             Line::StackPush(body) => {
-                let result = state.stack_push(|state| self.body(body, state));
+                let result = state.stack_push(|state| self.counted_body(body, state));
                 self.left(number, result)
             }
             Line::StackPop => {
@@ -85,6 +94,12 @@ impl<W: Watch> Driver<'_, '_, W> {
             Line::TagNode(tag) => state.tag_node(tag),
             Line::Call(rule) => self.node(rule, state),
         }
+    }
+
+    #[inline]
+    fn counted_body<'i>(&self, number: LineNumber, state: State<'i>) -> ParseResult<State<'i>> {
+        self.watch.counted();
+        self.body(number, state)
     }
 
     #[inline]

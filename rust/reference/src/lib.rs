@@ -4,6 +4,7 @@
 //! limit's message are the `ErrorVariant`'s, the furthest position is the `Error`'s location,
 //! which `state` makes of `attempt_pos`. Only accepted sheets and UTF-8 texts may be given.
 
+pub mod count;
 mod driver;
 mod sheet;
 pub mod shown;
@@ -39,12 +40,8 @@ pub enum Ending {
     Limited { limit: Limit, furthest: u32 },
 }
 
-/// One run of pest. Panics where pest does: a pop of an empty stack.
-pub fn state(sheet: &Sheet<'_>, text: &str, depth_limit: u32, call_limit: u32) -> Ending {
-    watched_state(sheet, text, depth_limit, call_limit, &Unwatched)
-}
-
-/// The same, with someone looking at pest's state at each step.
+/// One run of pest, with someone looking at its state at each step. Panics where pest does: a pop of
+/// an empty stack.
 pub fn watched_state<W: Watch>(
     sheet: &Sheet<'_>,
     text: &str,
@@ -58,7 +55,7 @@ pub fn watched_state<W: Watch>(
     }
 }
 
-/// A run as a benchmark wants it: the queue's length, and nothing turned into numbers.
+/// A run as a benchmark wants it: the queue's length, nobody looking, and nothing turned into numbers.
 pub fn queue_length(
     sheet: &Sheet<'_>,
     text: &str,

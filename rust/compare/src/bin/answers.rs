@@ -14,10 +14,9 @@ use std::process::ExitCode;
 use compare::answers::{Record, LONGEST_FILE};
 use compare::case::{Areas, Case, FILL};
 use compare::contender::contenders;
-use compare::judge::{laid_out, Judge};
+use compare::judge::{laid_out, pest, Judge};
 use compare::rng::Rng;
 use compare::{boundary, damage, exhaustive, probe, random, stack, tight};
-use reference::Sheet;
 
 const LONGEST_TEXT: usize = 40;
 const MOST_LINES: usize = 22;
@@ -80,6 +79,7 @@ fn make(seed: u64, out: &Path) {
     let fits = |case: &Case| case.tokens <= MOST_BOUNDARY_NUMBERS && is_plain(&case.text);
     let boundary = boundary::cases().into_iter().map(|(case, _)| case).filter(fits);
     boundary.for_each(|case| list.take(case));
+    let counted = boundary::counted().into_iter().map(|(case, ..)| case).filter(fits);
     list.judge.steps = 100_000;
     table_cases().into_iter().for_each(|case| list.take(case));
     attempts_cases().into_iter().for_each(|case| list.take(case));
@@ -89,9 +89,13 @@ fn make(seed: u64, out: &Path) {
     for (number, wanted) in WANTED {
         fill(&mut rng, &mut list, number, wanted);
     }
+    // Last, so that the answers before them keep their running numbers.
+    list.judge.steps = 200_000_000;
+    counted.for_each(|case| list.take(case));
     fs::create_dir_all(out).expect("the folder");
     write_files(out, &list.records);
     println!("seed {seed}: {} answers", list.records.len());
+    println!("{}", list.judge.tally);
 }
 
 /// A long text is given by its length, so it can hold but one letter.
@@ -118,20 +122,13 @@ fn record(judge: &mut Judge, case: Case) -> Record {
         let (tokens, positives, negatives) = Default::default();
         return Record { case, outcome, tokens, positives, negatives };
     }
-    let ending = pest_ending(&case);
-    let (outcome, tokens, _) = laid_out(&ending);
+    let (ending, calls) = pest(&case);
+    let (outcome, tokens, _) = laid_out(&ending, calls.driven);
     let (positives, negatives) = match ending {
         reference::Ending::Failed { positives, negatives, .. } => (positives, negatives),
         _ => Default::default(),
     };
     Record { case, outcome, tokens, positives, negatives }
-}
-
-fn pest_ending(case: &Case) -> reference::Ending {
-    let literals = std::str::from_utf8(&case.literals).expect("test 4");
-    let text = std::str::from_utf8(&case.text).expect("test 7");
-    let sheet = Sheet::new(&case.nodes, literals);
-    reference::state(&sheet, text, case.depth_limit, case.call_limit)
 }
 
 /// Each kind with good fields, and each field with every edge of what it may hold.
@@ -454,7 +451,8 @@ fn pest_agrees(record: &Record) -> bool {
     if !matches!(record.outcome.number, 0 | 10 | 11 | 12) {
         return true;
     }
-    let (outcome, tokens, mut report) = laid_out(&pest_ending(&record.case));
+    let (ending, calls) = pest(&record.case);
+    let (outcome, tokens, mut report) = laid_out(&ending, calls.driven);
     report.resize(record.case.report, 0);
     outcome == record.outcome && tokens == record.tokens && report == record.areas(FILL).1
 }

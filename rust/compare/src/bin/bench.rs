@@ -58,7 +58,8 @@ fn time(example: &Example, bytes: usize, runs: usize) {
     areas.prepare(&case);
     for other in &mut others {
         let outcome = other.run(&case, &mut areas);
-        assert_eq!((outcome.number, outcome.count as usize), (0, tokens), "{}", other.name());
+        let (number, count) = (outcome.number, outcome.count as usize);
+        assert_eq!((number, count, outcome.calls), (0, tokens, calls), "{}", other.name());
     }
     let mut times = vec![Vec::with_capacity(runs); 1 + others.len()];
     warm_up(|| {
@@ -95,8 +96,7 @@ fn time(example: &Example, bytes: usize, runs: usize) {
 }
 
 /// Counted calls of the run, by the oracle.
-fn counted_calls(case: &Case) -> u32 {
-    let case = Case { call_limit: u32::MAX, ..case.clone() };
+fn counted_calls(case: &Case) -> u64 {
     let input = case.input();
     let capacities = oracle::Capacities::of(case.tokens);
     oracle::read(&oracle::nodes_of(input), input, capacities, u64::MAX).last.calls

@@ -96,11 +96,11 @@ fn compare_all(options: &Options) -> Result<Tally, ()> {
 
 fn boundary_cases(judge: &mut Judge) -> Result<(), ()> {
     judge.steps = 100_000_000;
-    for (case, expected) in boundary::cases() {
+    for (case, expected) in boundary::expected() {
         match judge.judge(&case, None) {
-            Ok(Some(outcome)) if outcome.number == expected => {}
+            Ok(Some(outcome)) if expected.is(outcome) => {}
             Ok(outcome) => {
-                println!("expected {expected}, not {outcome:?}:\n{case}");
+                println!("{expected:?}, not {outcome:?}:\n{case}");
                 return Err(());
             }
             Err(difference) => return report(judge, &case, None, difference),
