@@ -72,6 +72,16 @@ MUTANTS = [
     ("peek the other way round", READING, "        if !bottom_up {", "        if bottom_up {"),
     ("peek of the height fails", READING, "if index > height || index < -height", "if index >= height || index < -height"),
     ("any-case folds nothing", READING, "b'A'..=b'Z' => byte + 32,", "b'A'..=b'Z' => byte,"),
+    ("root one line lower", READING, "evaluate(input.root as usize)", "evaluate((input.root as usize - 1).max(1))"),
+    ("the last line for every root", READING, "evaluate(input.root as usize)", "evaluate(nodes.len())"),
+    ("root 0 accepted, as line 1", LIB, "    if let Some(refused) = refusal(", "    let input = Input { root: input.root.max(1), ..input };\n    if let Some(refused) = refusal("),
+    ("root past the sheet accepted, as its last line", LIB, "    if let Some(refused) = refusal(", "    let input = Input { root: input.root.min(input.nodes.len() as u32 / 4), ..input };\n    if let Some(refused) = refusal("),
+    ("root cut to 16 bits", LIB, "    if let Some(refused) = refusal(", "    let input = Input { root: input.root & 0xFFFF, ..input };\n    if let Some(refused) = refusal("),
+    ("root tested before 6", LIB, "    if let Some(line) = still::first_still_repeat", "    if !is_line(input.root, &nodes) {\n        return Some(Outcome::new(18, 0, 0));\n    }\n    if let Some(line) = still::first_still_repeat"),
+    ("root tested after 7", LIB, "    if !is_line(input.root, &nodes) {", "    if is_utf8(input.text) && !is_line(input.root, &nodes) {"),
+    ("root tested after 8", LIB, "    if !is_line(input.root, &nodes) {", "    if (1..=DEEPEST).contains(&input.depth_limit) && !is_line(input.root, &nodes) {"),
+    ("root tested last", LIB, "    if !is_line(input.root, &nodes) {", "    if report >= REPORT && scratch >= SCRATCH && !is_line(input.root, &nodes) {"),
+    ("a refused root is the place", LIB, "Outcome::new(18, 0, 0)", "Outcome::new(18, input.root as usize, 0)"),
     ("range without its upper end", READING, "low <= scalar && scalar <= high", "low <= scalar && scalar < high"),
     ("skip counts bytes", READING, "Some((_, length)) => position += length,", "Some((_, _)) => position += 1,"),
     ("rules reported twice", LIB, "let set: std::collections::BTreeSet<u32> = rules.iter().copied().collect();\n    set.into_iter().collect()", "let mut set = rules.to_vec();\n    set.sort();\n    set"),
@@ -81,7 +91,7 @@ MUTANTS = [
     ("kind 17 never stands still", STILL, "| 16 | 17 | 19 => true", "| 16 | 19 => true"),
 ]
 
-COMPARE = ["target/release/compare", "--lines", "2", "--random", "40000", "--damaged", "0", "--watch", "8"]
+COMPARE = ["target/release/compare", "--lines", "2", "--random", "40000", "--damaged", "0", "--watch", "8", "--pairs", "10000"]
 REPLAY = ["target/release/answers", "--check", str(HERE.parent / "crates/replay/data")]
 
 BUILD = ["cargo", "build", "-j1", "--release", "--offline", "-q", "--bin", "compare", "--bin", "answers"]

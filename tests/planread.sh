@@ -43,7 +43,7 @@ refused() { ends 2 && prints_nothing && says_lines 1; }
 
 examples() {
     local example
-    for example in first channels json heredoc; do
+    for example in first channels json heredoc two-roots; do
         try "examples/$example" "$root/planread" "$root/examples/$example"
         ends 0 && lists "$root/examples/$example/expected" && is_silent
     done

@@ -4,7 +4,7 @@ use lib.Dec.{eqb}
 use lib.ListN.{length}
 use Rattle.std.specs.Prelude.{Option, None, Result, Ok, if◌then◌else◌}
 use Rattle.checks.specs.declared.grammar.Refused.{Refused}
-use Rattle.checks.specs.declared.grammar.Refused.TheVariants.{Literals, Nodes, StillRepeat, Text, DepthLimit, Areas}
+use Rattle.checks.specs.declared.grammar.Refused.TheVariants.{Literals, Nodes, StillRepeat, Root, Text, DepthLimit, Areas}
 use Rattle.reading.specs.Outcome.{Input, Refusal, refusal_on, refusal}
 use Rattle.checks.specs.Refusals.{refusal_of, refused_of}
 
@@ -14,6 +14,7 @@ told r =
     if eqb r.number 4 then Literals
     else if eqb r.number 5 then Nodes r.place
     else if eqb r.number 6 then StillRepeat r.place
+    else if eqb r.number 18 then Root
     else if eqb r.number 7 then Text
     else if eqb r.number 8 then DepthLimit
     else Areas
@@ -23,6 +24,7 @@ unfolding told
 told_back Literals = refl
 told_back (Nodes line) = refl
 told_back (StillRepeat line) = refl
+told_back Root = refl
 told_back Text = refl
 told_back DepthLimit = refl
 told_back Areas = refl
@@ -32,7 +34,7 @@ refusal_of-injective a b e = sym (told_back a) ∙ ap told e ∙ told_back b
 
 -- The refusal of an input is that of its parts.
 pub of_input : {o : Option Refusal} (i : Input)
-    → o ≡ refusal_on i.nodes i.literals i.text i.depth_limit (length i.report) i.scratch → o ≡ refusal i
+    → o ≡ refusal_on i.nodes i.literals i.text i.root i.depth_limit (length i.report) i.scratch → o ≡ refusal i
 unfolding refusal
 of_input i e = e
 

@@ -4,7 +4,7 @@ ghost use Rattle.matching.specs.Utf8.{is_utf8};
 ghost use Rattle.reading.specs.Grammar.{between, scalar, count, literal_part, called, nil, name};
 ghost use Rattle.reading.specs.Grammar.{line_count, edge, fields_fit, line_fits, first_line, misfit};
 ghost use Rattle.reading.specs.Outcome.{good_text, first_of, refusal_on};
-ghost use Rattle.checks.specs.Refusals.{refusal_of, refused_of, grammar_tests, later_tests};
+ghost use Rattle.checks.specs.Refusals.{refusal_of, refused_of, grammar_tests, root_tests, later_tests};
 ghost use Rattle.checks.specs.Lines.{line_misfits};
 
 use crate::node::{natural_of, node_at, row_of};
@@ -13,7 +13,7 @@ use matching::position::Position;
 use matching::utf8::is_utf8;
 use reading::node::Node;
 
-// Why a run is refused: document 01's refusals 4 to 9, with the line where one is named.
+// Why a run is refused: document 01's refusals 4 to 9, with the line where one is named, and document 02's 18.
 #[derive(Clone, Copy, PartialEq, Eq, Debug)]
 pub enum Refused {
     // 4: "literal text over 65,535 bytes or not UTF-8"
@@ -22,6 +22,8 @@ pub enum Refused {
     Nodes(u32),
     // 6: "repeat body may stand still": the first such repeat
     StillRepeat(u32),
+    // 18: "root not a line of the sheet"
+    Root,
     // 7: "text over 65,535 bytes or not UTF-8"
     Text,
     // 8: "depth limit not 1 to 1,024"
@@ -40,6 +42,7 @@ impl Refused {
             Refused::Literals => 4,
             Refused::Nodes(_) => 5,
             Refused::StillRepeat(_) => 6,
+            Refused::Root => 18,
             Refused::Text => 7,
             Refused::DepthLimit => 8,
             Refused::Areas => 9,
@@ -228,6 +231,16 @@ fn grammar_refusal(nodes: &[i32], literals: &[u8]) -> Result<(), Refused>
     }
 }
 
+// Test 18, of the sheet's number of lines.
+fn root_refusal(nodes: &[i32], root: u32) -> Result<(), Refused>
+    ensures { refused_of result ≡ first_of (root_tests nodes.now root) }
+{
+    if root < 1 || nodes.len() / 4 < root as usize {
+        return Err(Refused::Root);
+    }
+    Ok(())
+}
+
 // Tests 7 to 9, which do not look at the grammar.
 fn later_refusal(text: &[u8], depth: u32, report: usize, scratch: usize) -> Result<(), Refused>
     ensures { refused_of result ≡ first_of (later_tests text.now depth report scratch) }
@@ -244,17 +257,20 @@ fn later_refusal(text: &[u8], depth: u32, report: usize, scratch: usize) -> Resu
     Ok(())
 }
 
-// The tests of a run, 4 to 9, in order. Only where all pass is a run started. Of report and scratch the tests look at the sizes alone.
+// The tests of a run, 4 to 6, 18 and 7 to 9, in order. Only where all pass is a run started. Of report and scratch the tests look at the
+// sizes alone.
 pub fn refusal(
     nodes: &[i32],
     literals: &[u8],
     text: &[u8],
+    root: u32,
     depth: u32,
     report: usize,
     scratch: usize,
 ) -> Result<(), Refused>
-    ensures { refused_of result ≡ refusal_on nodes.now literals.now text.now depth report scratch }
+    ensures { refused_of result ≡ refusal_on nodes.now literals.now text.now root depth report scratch }
 {
     grammar_refusal(nodes, literals)?;
+    root_refusal(nodes, root)?;
     later_refusal(text, depth, report, scratch)
 }

@@ -1,4 +1,4 @@
-// What is tested before a run and before a call: the grammar and the run's other inputs (tests 4 to 9), and the entry of a combinator.
+// What is tested before a run and before a call: the grammar and the run's other inputs (tests 4 to 9 and 18), and the entry of a combinator.
 // Every public function is total.
 #![tactic(auto)]
 

@@ -10,13 +10,14 @@ use reading::call_limit_tracker::LimitKind;
 use reading::parser_state::{Cause, Ending};
 use std::{fmt, io};
 
-// ── Tests 4 to 9: the number and the place ──
+// ── Tests 4 to 9 and 18: the number and the place ──
 // What the tests look at.
 #[derive(Clone, Copy)]
 struct Case<'a> {
     nodes: &'a [i32],
     literals: &'a [u8],
     text: &'a [u8],
+    root: u32,
     depth: u32,
     report: usize,
     scratch: usize,
@@ -27,13 +28,16 @@ const GOOD: Case<'static> = Case {
     nodes: &[5, 0, 0, 0],
     literals: b"",
     text: b"",
+    root: 1,
     depth: 1,
     report: 515,
     scratch: 4864,
 };
 
 fn refused(rt: &impl Print, name: &str, c: Case<'_>) -> io::Result<()> {
-    match refusal(c.nodes, c.literals, c.text, c.depth, c.report, c.scratch) {
+    match refusal(
+        c.nodes, c.literals, c.text, c.root, c.depth, c.report, c.scratch,
+    ) {
         Ok(()) => println!(rt; "{name}: none"),
         Err(refused) => println!(rt; "{name}: {} at {}", refused.number(), refused.place()),
     }
@@ -92,6 +96,31 @@ fn long_inputs(rt: &impl Print) -> io::Result<()> {
 // The other inputs, the grammar being good.
 fn inputs(rt: &impl Print) -> io::Result<()> {
     let cases = [
+        ("root 0", Case { root: 0, ..GOOD }),
+        ("root 2 of one line", Case { root: 2, ..GOOD }),
+        (
+            "the greatest root, and text that is not UTF-8",
+            Case {
+                root: u32::MAX,
+                text: b"\x80",
+                ..GOOD
+            },
+        ),
+        (
+            "root 0 of a repeat of an end",
+            Case {
+                nodes: &[5, 0, 0, 0, 10, 1, 0, 0],
+                root: 0,
+                ..GOOD
+            },
+        ),
+        (
+            "root 1 of two lines",
+            Case {
+                nodes: &[5, 0, 0, 0, 5, 0, 0, 0],
+                ..GOOD
+            },
+        ),
         (
             "text that is not UTF-8, and depth 0",
             Case {

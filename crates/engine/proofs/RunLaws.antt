@@ -15,14 +15,13 @@ use Rattle.engine.specs.declared.parser_state.ParserState as State
 use Rattle.reading.specs.declared.parser_state.Ending as Declared
 use Rattle.reading.specs.declared.parser_state.Ending.TheVariants as Code
 use Rattle.reading.specs.Ending.{Ending, Ok, Err, Stop}
-use Rattle.reading.specs.Grammar.{line_count, tree_at, root}
 use Rattle.reading.specs.Pest as Pest
 use Rattle.reading.specs.Pest.{ParserState, CallLimit}
 use Rattle.engine.specs.Areas.{numbers, pairs, queue_of, positives_at, negatives_at, view, view_end}
 use Rattle.checks.specs.Tracker.{limit_of}
 use Rattle.reading.specs.Fit.{Fit}
 use Rattle.checks.specs.Refusals.{refusal_of}
-use Rattle.reading.specs.Outcome.{Input, Refusal, refusal, refused, capacity, setting, reading, answer, Outcome, laid, started, outcome, RunOutcome}
+use Rattle.reading.specs.Outcome.{Input, Refusal, refusal, refused, capacity, setting, root_tree, reading, answer, Outcome, laid, started, outcome, RunOutcome}
 use Rattle.reading.specs.Outcome.{calls_of, counted_calls}
 use Rattle.reading.specs.Answer.{pest_answer, pest_calls}
 use Rattle.engine.specs.Conclude.{Concluding, ConcludeReady}
@@ -105,18 +104,18 @@ module _ (i : Input) (e : refusal i ≡ None) where
     deep = omega (arith, s.depth_high);
   })
 
-  pub at_last : Line i.nodes (line_count i.nodes)
-  at_last = record { low = s.grammar.some_line; high = omega arith }
+  pub at_root : Line i.nodes i.root
+  at_root = record { low = s.root_line.0; high = s.root_line.1 }
 
   -- The evaluation from the first state.
   abbrev pub ran : Ending ParserState
-  ran = Pest.eval (setting i) true i.depth_limit (root i.nodes i.literals) (Pest.new i.call_limit)
+  ran = Pest.eval (setting i) true i.depth_limit (root_tree i) (Pest.new i.call_limit)
 
   pub ran_is : (c : ℕ) → c ≡ capacity i.tokens → (m : ParserState) → m ≡ Pest.new i.call_limit → (r : Ending ParserState)
-      → r ≡ evaluated i.nodes i.literals i.text c i.depth_limit (tree_at i.nodes i.literals (line_count i.nodes)) m → r ≡ ran
+      → r ≡ evaluated i.nodes i.literals i.text c i.depth_limit (root_tree i) m → r ≡ ran
   unfolding evaluated
   ran_is c b m n r h = h ∙ ap₂ (λ (x : ℕ) (y : ParserState).
-      evaluated i.nodes i.literals i.text x i.depth_limit (tree_at i.nodes i.literals (line_count i.nodes)) y) b n
+      evaluated i.nodes i.literals i.text x i.depth_limit (root_tree i) y) b n
 
   abbrev FitEnd : Ending ParserState → Type 0
   FitEnd (Ok m) = Fit (setting i) m
@@ -124,7 +123,7 @@ module _ (i : Input) (e : refusal i ≡ None) where
   FitEnd (Stop c) = Unit {0}
 
   ran_fits : FitEnd ran
-  ran_fits = go _ (eval_keeps (setting i) (rule_still i.nodes) (tested i s.grammar) i.depth_limit (root i.nodes i.literals)
+  ran_fits = go _ (eval_keeps (setting i) (rule_still i.nodes) (tested i s.grammar) i.depth_limit (root_tree i)
       (root_literals i e) (root_steady i e) (Pest.new i.call_limit) first_fit)
     where
       go : {b : _} {p : ℕ} {l : _} {a : _} {marks held : ℕ} (r : Ending ParserState) → Keeps (setting i) b p l a marks held r → FitEnd r

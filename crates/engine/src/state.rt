@@ -53,18 +53,18 @@ fn started<'a>(
     nodes: &[i32],
     literals: &'a [u8],
     text: &'a [u8],
+    root: u32,
     depth_limit: u32,
     call_limit: u32,
     tokens: &mut [u32],
     report: &mut [u32],
     scratch: &mut [u32],
 ) -> RunOutcome
-    requires { refusal (input nodes.now literals.now text.now depth_limit call_limit tokens.old report.old (length scratch.old)) ≡ None }
-    ensures { Ran (input nodes.now literals.now text.now depth_limit call_limit tokens.old report.old (length scratch.old))
+    requires { refusal (input nodes.now literals.now text.now root depth_limit call_limit tokens.old report.old (length scratch.old)) ≡ None }
+    ensures { Ran (input nodes.now literals.now text.now root depth_limit call_limit tokens.old report.old (length scratch.old))
         (run_outcome_of result tokens.new report.new) scratch.old scratch.new }
 {
     let room = capacity_of(tokens);
-    let root = nodes.len() / 4;
     let depth = depth_limit as usize;
     let mut state = ParserState::new(call_limit);
     let setting = Setting {
@@ -73,32 +73,34 @@ fn started<'a>(
         text,
         room,
     };
-    let r = packed_node(&setting, tokens, scratch, &mut state, depth, root);
+    let r = packed_node(&setting, tokens, scratch, &mut state, depth, root as usize);
     RunOutcome {
         outcome: conclude(tokens, scratch, report, &state, unpacked(r)),
         calls: state.tracker.current,
     }
 }
 
-// Document 01's run. A refused one leaves all areas.
+// Document 01's run, from the root line that it names (document 02, request 4). A refused one leaves all areas.
 // Kept: each input and each area on its own, as C's interface hands them in.
 pub fn run<'a>(
     nodes: &[i32],
     literals: &'a [u8],
     text: &'a [u8],
+    root: u32,
     depth_limit: u32,
     call_limit: u32,
     tokens: &mut [u32],
     report: &mut [u32],
     scratch: &mut [u32],
 ) -> RunOutcome
-    ensures { Ran (input nodes.now literals.now text.now depth_limit call_limit tokens.old report.old (length scratch.old))
+    ensures { Ran (input nodes.now literals.now text.now root depth_limit call_limit tokens.old report.old (length scratch.old))
         (run_outcome_of result tokens.new report.new) scratch.old scratch.new }
 {
     match refusal(
         nodes,
         literals,
         text,
+        root,
         depth_limit,
         report.len(),
         scratch.len(),
@@ -111,6 +113,7 @@ pub fn run<'a>(
             nodes,
             literals,
             text,
+            root,
             depth_limit,
             call_limit,
             tokens,

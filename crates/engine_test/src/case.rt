@@ -57,10 +57,13 @@ impl<'a> Case<'a> {
         let literals = repeated(alloc, self.literals, literals_length)?;
         let mut nodes = nodes_of(alloc, self.lines)?;
         nodes.truncate(parsed(settings.next()).unwrap_or(nodes.len()));
+        let last_line = u32::try_from(nodes.len() / 4).unwrap_or(u32::MAX);
+        let root = parsed(settings.next()).unwrap_or(last_line);
         let RunOutcome { outcome, calls } = run(
             nodes.as_slice(),
             literals.as_slice(),
             text.as_slice(),
+            root,
             depth_limit,
             call_limit,
             tokens.as_mut_slice(),

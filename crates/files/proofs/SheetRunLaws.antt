@@ -2,12 +2,15 @@
 -- bytes is no whole number of lines.
 use Prim.Native.Nat.{ℕ, ◌*◌}
 use native.Mathlib.Omega.{arith}
-use mathlib.Core.Path.{◌≡◌, refl, sym, ap, ◌∙◌}
+use mathlib.Core.Path.{◌≡◌, refl, sym, ap, ◌∙◌, subst}
 use mathlib.Core.List.{List, ◌++◌}
 use lib.IntN.{ℤ}
 use lib.ListN.{length, take, drop}
 use lib.Seq.{take-append_seam}
 use Rattle.engine.specs.declared.state.Outcome.{Outcome}
+use Rattle.engine.specs.Conclude.{run_outcome_of}
+use Rattle.reading.specs.Grammar.{line_count}
+use Rattle.reading.specs.Run.{input, Ran}
 use Rattle.sheet.specs.Area.{over}
 use Rattle.sheet.specs.Sheet.{count, lines, numbers, Reading, refused, read, reading, outcome, SheetRead}
 use Rattle.files.specs.SheetRun.{Given, Back, Answered, SheetRun}
@@ -36,10 +39,21 @@ module _ (s : List ℕ) (a b : List ℤ) (r : Outcome) (g : Given) (w : SheetRea
         let e : b ≡ numbers (lines s) ++ drop (length (numbers (lines s))) a = w.area ∙ rw p.all in
         rw (e, ← l) (take-append_seam (numbers (lines s)) _)
 
-    pub run_read : (t : Back) → Answered (read r.count (take (r.count * 4) b)) g t → SheetRun s a b g t
+    -- and its last line
+    last : line_count (take (r.count * 4) b) ≡ r.count
+    last =
+        let p = passed s (length a) r w.answer z in
+        let c : r.count ≡ count s = ap (λ y. y.count) w.answer ∙ ap (λ y. (outcome y).count) p.all in
+        omega (arith, lines_numbers s p.good, c, ap (λ (y : List ℤ). length y) lent)
+
+    abbrev from : (root : ℕ) → Back → Type 0
+    from root t = Ran (input (take (r.count * 4) b) g.literals g.text root g.depth_limit g.call_limit g.tokens g.report (length g.scratch))
+        (run_outcome_of t.answer t.tokens t.report) g.scratch t.scratch
+
+    pub run_read : (t : Back) → from r.count t → SheetRun s a b g t
     run_read t h =
         let p = passed s (length a) r w.answer z in
-        record { answered = rw (p.all, ← lent) h; area = w.area }
+        record { answered = rw (p.all, ← lent) (subst (λ k. from k t) (sym last) h); area = w.area }
 
 -- what planread's buffer holds of a sheet over 65,535 bytes
 pub overlong : (s : List ℕ) (room : ℕ) → length s ≡ 65536 → reading s room ≡ refused 1 0

@@ -2,6 +2,7 @@
 use Rattle.std.specs.Prelude.{ℕ, ◌≡◌, List, ℤ, length}
 use Rattle.engine.specs.declared.state.RunOutcome.{RunOutcome}
 use Rattle.engine.specs.Conclude.{run_outcome_of}
+use Rattle.reading.specs.Grammar.{line_count}
 use Rattle.reading.specs.Outcome.{Input}
 use Rattle.reading.specs.Run.{input, Ran}
 use Rattle.sheet.specs.Sheet.{Reading, refused, read, reading, outcome, area_after}
@@ -23,9 +24,9 @@ pub record Back : Type 0 where
   pub report : List ℕ
   pub scratch : List ℕ
 
--- What the run is handed: the nodes that the sheet gave, and no others.
+-- What the run is handed: the nodes that the sheet gave, and no others. Document 02, request 4: it names "the last line" as its root.
 abbrev pub handed : List ℤ → Given → Input
-handed ns g = input ns g.literals g.text g.depth_limit g.call_limit g.tokens g.report (length g.scratch)
+handed ns g = input ns g.literals g.text (line_count ns) g.depth_limit g.call_limit g.tokens g.report (length g.scratch)
 
 -- A refused sheet is answered by its own number, counts no call, and leaves all areas. A good one is run.
 abbrev pub Answered : Reading → Given → Back → Type 0

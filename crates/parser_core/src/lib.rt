@@ -45,19 +45,21 @@ pub extern "C" fn parser_core_run<'a>(
     nodes: &[i32],
     literals: &'a [u8],
     text: &'a [u8],
+    root: u32,
     depth_limit: u32,
     call_limit: u32,
     tokens: &mut [u32],
     report: &mut [u32],
     scratch: &mut [u32],
 ) -> ParserCoreRunOutcome
-    ensures { Ran (input nodes.now literals.now text.now depth_limit call_limit tokens.old report.old (length scratch.old))
+    ensures { Ran (input nodes.now literals.now text.now root depth_limit call_limit tokens.old report.old (length scratch.old))
         (run_outcome_of (run_returned result) tokens.new report.new) scratch.old scratch.new }
 {
     run(
         nodes,
         literals,
         text,
+        root,
         depth_limit,
         call_limit,
         tokens,

@@ -17,19 +17,21 @@ pub extern "C" fn parser_core_run<'a>(
     nodes: &[i32],
     literals: &'a [u8],
     text: &'a [u8],
+    root: u32,
     depth_limit: u32,
     call_limit: u32,
     tokens: &mut [u32],
     report: &mut [u32],
     scratch: &mut [u32],
 ) -> ParserCoreRunOutcome
-    ensures { Ran (input nodes.now literals.now text.now depth_limit call_limit tokens.old report.old (length scratch.old))
+    ensures { Ran (input nodes.now literals.now text.now root depth_limit call_limit tokens.old report.old (length scratch.old))
         (run_outcome_of (run_returned result) tokens.new report.new) scratch.old scratch.new }
 {
     parser_core::parser_core_run(
         nodes,
         literals,
         text,
+        root,
         depth_limit,
         call_limit,
         tokens,
@@ -47,24 +49,26 @@ pub extern "C" fn parser_core_read_sheet(sheet: &[u8], nodes: &mut [i32]) -> Par
 
 // Calls the export as C does, by position: the arguments in the order of rust/parser-core/include/parser_core.h. A contract goes by names,
 // so an export whose names change places is refused here.
-// Kept: eight parameters, and once more in parser_core_test: C's order of arguments.
+// Kept: nine parameters, and once more in parser_core_test: C's order of arguments.
 fn run_by_position<'a>(
     nodes: &[i32],
     literals: &'a [u8],
     text: &'a [u8],
+    root: u32,
     depth_limit: u32,
     call_limit: u32,
     tokens: &mut [u32],
     report: &mut [u32],
     scratch: &mut [u32],
 ) -> ParserCoreRunOutcome
-    ensures { Ran (input nodes.now literals.now text.now depth_limit call_limit tokens.old report.old (length scratch.old))
+    ensures { Ran (input nodes.now literals.now text.now root depth_limit call_limit tokens.old report.old (length scratch.old))
         (run_outcome_of (run_returned result) tokens.new report.new) scratch.old scratch.new }
 {
     parser_core_run(
         nodes,
         literals,
         text,
+        root,
         depth_limit,
         call_limit,
         tokens,

@@ -45,24 +45,26 @@ impl fmt::Display for Numbers<'_> {
 }
 
 // The header's order of arguments, with its promise of each for all input.
-// Kept: eight parameters, and once more in parser_core_c: each calls another crate's export by position, in C's order of arguments.
+// Kept: nine parameters, and once more in parser_core_c: each calls another crate's export by position, in C's order of arguments.
 fn run_by_position<'a>(
     nodes: &[i32],
     literals: &'a [u8],
     text: &'a [u8],
+    root: u32,
     depth_limit: u32,
     call_limit: u32,
     tokens: &mut [u32],
     report: &mut [u32],
     scratch: &mut [u32],
 ) -> ParserCoreRunOutcome
-    ensures { Ran (input nodes.now literals.now text.now depth_limit call_limit tokens.old report.old (length scratch.old))
+    ensures { Ran (input nodes.now literals.now text.now root depth_limit call_limit tokens.old report.old (length scratch.old))
         (run_outcome_of (run_returned result) tokens.new report.new) scratch.old scratch.new }
 {
     parser_core_run(
         nodes,
         literals,
         text,
+        root,
         depth_limit,
         call_limit,
         tokens,
@@ -77,6 +79,7 @@ fn list(
     name: &str,
     nodes: &[i32],
     text: &[u8],
+    root: u32,
     depth: u32,
     calls: u32,
 ) -> io::Result<()> {
@@ -87,6 +90,7 @@ fn list(
         nodes,
         b"abc",
         text,
+        root,
         depth,
         calls,
         &mut tokens,
@@ -128,9 +132,11 @@ fn main(rt: HostRuntime) -> io::Result<()> {
     let mut nodes = [5i32; 36];
     read(&rt, "sheet", SHEET, &mut nodes)?;
     read(&rt, "malformed sheet", MALFORMED, &mut nodes)?;
-    list(&rt, "parsed", &nodes, b"abc", 2, 0)?;
-    list(&rt, "failed", &nodes, b"aa", 2, 0)?;
-    list(&rt, "stopped by the call limit", &nodes, b"abc", 2, 1)?;
-    list(&rt, "stopped by the depth limit", &nodes, b"abc", 1, 2)?;
-    list(&rt, "refused", &nodes, b"abc", 0, 2)
+    list(&rt, "parsed", &nodes, b"abc", 9, 2, 0)?;
+    list(&rt, "parsed from rule 7", &nodes, b"abc", 2, 1, 0)?;
+    list(&rt, "failed", &nodes, b"aa", 9, 2, 0)?;
+    list(&rt, "stopped by the call limit", &nodes, b"abc", 9, 2, 1)?;
+    list(&rt, "stopped by the depth limit", &nodes, b"abc", 9, 1, 2)?;
+    list(&rt, "refused", &nodes, b"abc", 9, 0, 2)?;
+    list(&rt, "refused for its root", &nodes, b"abc", 10, 0, 2)
 }

@@ -54,7 +54,7 @@ fn over(rt: &impl Runtime, name: &str, sheet: &str, literals: &str, text: &[u8])
 
 // Copies of the folders of examples/.
 fn examples(rt: &impl Runtime) -> io::Result<()> {
-    for example in ["first", "channels", "json", "heredoc"] {
+    for example in ["first", "channels", "json", "heredoc", "two-roots"] {
         let sheet = format!(in rt.alloc(); "{example}/sheet.txt")?;
         let literals = format!(in rt.alloc(); "{example}/literals.txt")?;
         let text = format!(in rt.alloc(); "{example}/plan.txt")?;

@@ -301,7 +301,7 @@ module _ (ns : List ℤ) (literals : List ℕ) (g : Accepted ns literals) (l : �
   facts = line_facts ns literals l (g.fits l lo hi)
 
   -- What holds at the row of the line's kind.
-  by_kind : {A B : Type 0} (R : A → B → Type 0) (xs : List A) (ys : List B) (a : A) (b : B) → length xs ≡ 20
+  pub by_kind : {A B : Type 0} (R : A → B → Type 0) (xs : List A) (ys : List B) (a : A) (b : B) → length xs ≡ 20
       → Each R (kind_at ns l) 0 xs ys → R (row xs a (node_at ns l).kind) (row ys b (node_at ns l).kind)
   by_kind R xs ys a b n h = each_at R (kind_at ns l) 0 xs ys h (kind_at ns l - 1) (omega (arith, facts.known_low))
       (omega (arith, facts.known_low, facts.known_high)) a b
@@ -310,7 +310,7 @@ module _ (ns : List ℤ) (literals : List ℕ) (g : Accepted ns literals) (l : �
   down x w = lower_tree ns literals l x hi w
 
   -- The line's tree is its kind's over the trees of the lines that it names.
-  tree_row : tree_at ns literals l ≡ row (tree_rows literals (tree_at ns literals) l (node_at ns l)) end_of_input (node_at ns l).kind
+  pub tree_row : tree_at ns literals l ≡ row (tree_rows literals (tree_at ns literals) l (node_at ns l)) end_of_input (node_at ns l).kind
   unfolding tree_of
   tree_row =
       let n : Node = node_at ns l in
@@ -339,7 +339,7 @@ module _ (ns : List ℤ) (literals : List ℕ) (g : Accepted ns literals) where
     up_to zero l i h = absurd (omega (arith, i.0))
     up_to (suc m) l i h = step l i (λ x w. up_to m x (w.low, omega (arith, w.high, i.1)) (omega (arith, w.high)))
 
-    by_lines : (l : ℕ) → In ns l → P l
+    pub by_lines : (l : ℕ) → In ns l → P l
     by_lines l i = up_to l l i (omega arith)
 
   -- A property of trees that each kind has, if the trees that it is made of have it.
@@ -552,6 +552,7 @@ pub record Started (i : Input) : Type 0 where
   pub fitting : misfit i.nodes i.literals ≡ None
   pub moving : still_repeat i.nodes ≡ None
   pub grammar : Accepted i.nodes i.literals
+  pub root_line : In i.nodes i.root
   pub text_short : length i.text ≤ 65535
   pub text_whole : Utf8 i.text
   pub depth_low : 1 ≤ i.depth_limit
@@ -588,9 +589,9 @@ started i e =
     let h : AllNone (tests i) = all_none (tests i) e in
     let good : (n : ℕ) (b : Bool) → refuse n (unless b) ≡ None → b ≡ true = λ n b q. unless_none b (refuse_none n (unless b) q) in
     let g₄ : good_text i.literals ≡ true = good 4 (good_text i.literals) h.0 in
-    let g₇ : good_text i.text ≡ true = good 7 (good_text i.text) h.1.1.1.0 in
-    let d : (1 ≤ i.depth_limit) × (i.depth_limit ≤ 1024) = within_true 1 1024 i.depth_limit (good 8 (within 1 1024 i.depth_limit) h.1.1.1.1.0) in
-    let a : (leb 515 (length i.report) && leb 4864 i.scratch) ≡ true = good 9 (leb 515 (length i.report) && leb 4864 i.scratch) h.1.1.1.1.1.0 in
+    let g₇ : good_text i.text ≡ true = good 7 (good_text i.text) h.1.1.1.1.0 in
+    let d : (1 ≤ i.depth_limit) × (i.depth_limit ≤ 1024) = within_true 1 1024 i.depth_limit (good 8 (within 1 1024 i.depth_limit) h.1.1.1.1.1.0) in
+    let a : (leb 515 (length i.report) && leb 4864 i.scratch) ≡ true = good 9 (leb 515 (length i.report) && leb 4864 i.scratch) h.1.1.1.1.1.1.0 in
     let f : misfit i.nodes i.literals ≡ None = refuse_none 5 (misfit i.nodes i.literals) h.1.0 in
     let m : still_repeat i.nodes ≡ None = refuse_none 6 (still_repeat i.nodes) h.1.1.0 in
     record {
@@ -599,6 +600,7 @@ started i e =
       fitting = f;
       moving = m;
       grammar = accepted i.nodes i.literals f m;
+      root_line = within_true 1 (line_count i.nodes) i.root (good 18 (within 1 (line_count i.nodes) i.root) h.1.1.1.0);
       text_short = good_short i.text g₇;
       text_whole = good_whole i.text g₇;
       depth_low = d.0;

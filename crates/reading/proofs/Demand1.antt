@@ -1,4 +1,4 @@
--- Demand 1: a refusal is one of six, and an answer to a reading has one of eight numbers.
+-- Demand 1: a refusal is one of seven, and an answer to a reading has one of eight numbers.
 use mathlib.Core.Path.{◌≡◌, sym, ap, ◌∙◌, subst}
 use mathlib.Core.Bool.{◌&&◌}
 use mathlib.Core.List.{List, [], ◌∷◌}
@@ -10,14 +10,14 @@ use lib.ListN.{length}
 use Rattle.matching.specs.Utf8.{within}
 use Rattle.reading.specs.declared.call_limit_tracker.LimitKind.{LimitKind}
 use Rattle.reading.specs.Ending.{Ending, Ok, Err, Stop}
-use Rattle.reading.specs.Grammar.{misfit}
+use Rattle.reading.specs.Grammar.{line_count, misfit}
 use Rattle.reading.specs.Nullable.{still_repeat}
 use Rattle.reading.specs.Forest.{tokens}
 use Rattle.reading.specs.Reading.{State}
 use Rattle.reading.specs.Outcome.{Input, Refusal, refuse, unless, good_text, first_of, tests, refusal, reading, Answer, answer, of_limit}
 use Rattle.reading.specs.Outcome.{of_cause, of_tokens, of_failure, ascending, Outcome, refused, started, outcome, RunOutcome, calls_of, counted_calls}
 use Rattle.reading.specs.Run.{Ran}
-use Rattle.reading.specs.Demand1.{Refused, Ended, with_tokens, without, Demand1}
+use Rattle.reading.specs.Demand1.{Refusing, tested, no_root, Refused, Ended, with_tokens, without, Demand1}
 use Rattle.reading.proofs.Rows.{◌▹◌}
 use Rattle.reading.proofs.AnswerLaws.{stop_number}
 use Rattle.reading.proofs.Runs.{run_bounded, outcome_is, calls_are}
@@ -25,28 +25,33 @@ use Rattle.reading.proofs.Runs.{run_bounded, outcome_is, calls_are}
 -- ── Refused ──
 abbrev Numbered : List (Option Refusal) → Type 0
 Numbered [] = Unit {0}
-Numbered (t ∷ ts) = ((r : Refusal) → t ≡ Some r → (4 ≤ r.number) × (r.number ≤ 9)) × Numbered ts
+Numbered (t ∷ ts) = ((r : Refusal) → t ≡ Some r → Refusing r.number) × Numbered ts
 
-first_numbered : (ts : List (Option Refusal)) → Numbered ts → (r : Refusal) → first_of ts ≡ Some r → (4 ≤ r.number) × (r.number ≤ 9)
+first_numbered : (ts : List (Option Refusal)) → Numbered ts → (r : Refusal) → first_of ts ≡ Some r → Refusing r.number
 first_numbered [] h r e = let z : ◌≡◌ {A = ℕ} 0 1 = cc in absurd (omega arith)
 first_numbered (None ∷ ts) h r e = first_numbered ts h.1 r e
 first_numbered (Some q ∷ ts) h r e = h.0 r e
 
-refuse_numbered : (n : ℕ) (o : Option ℕ) → 4 ≤ n → n ≤ 9 → (r : Refusal) → refuse n o ≡ Some r → (4 ≤ r.number) × (r.number ≤ 9)
-refuse_numbered n None l h r e = let z : ◌≡◌ {A = ℕ} 0 1 = cc in absurd (omega arith)
-refuse_numbered n (Some p) l h r e = let q : n ≡ r.number = cc in (omega arith, omega arith)
+refuse_numbered : {n : ℕ} → Refusing n → (o : Option ℕ) (r : Refusal) → refuse n o ≡ Some r → Refusing r.number
+refuse_numbered {n} k None r e = let z : ◌≡◌ {A = ℕ} 0 1 = cc in absurd (omega arith)
+refuse_numbered {n} k (Some p) r e = let q : n ≡ r.number = cc in subst Refusing q k
 
--- The tests 4 to 9 refuse by their numbers, whatever they find.
-numbered : (a b c d e f : Option ℕ) → Numbered (refuse 4 a ∷ refuse 5 b ∷ refuse 6 c ∷ refuse 7 d ∷ refuse 8 e ∷ refuse 9 f ∷ [])
-numbered a b c d e f =
-    refuse_numbered 4 a (omega arith) (omega arith) ▹ refuse_numbered 5 b (omega arith) (omega arith)
-    ▹ refuse_numbered 6 c (omega arith) (omega arith) ▹ refuse_numbered 7 d (omega arith) (omega arith)
-    ▹ refuse_numbered 8 e (omega arith) (omega arith) ▹ refuse_numbered 9 f (omega arith) (omega arith) ▹ tt
+-- The tests refuse by their numbers, whatever they find.
+numbered : (a b c root d e f : Option ℕ)
+    → Numbered (refuse 4 a ∷ refuse 5 b ∷ refuse 6 c ∷ refuse 18 root ∷ refuse 7 d ∷ refuse 8 e ∷ refuse 9 f ∷ [])
+numbered a b c root d e f =
+    by 4 (omega arith) (omega arith) a ▹ by 5 (omega arith) (omega arith) b ▹ by 6 (omega arith) (omega arith) c
+    ▹ refuse_numbered no_root root
+    ▹ by 7 (omega arith) (omega arith) d ▹ by 8 (omega arith) (omega arith) e ▹ by 9 (omega arith) (omega arith) f ▹ tt
+  where
+    by : (n : ℕ) → 4 ≤ n → n ≤ 9 → (o : Option ℕ) (r : Refusal) → refuse n o ≡ Some r → Refusing r.number
+    by n l h = refuse_numbered (tested n l h)
 
-refusal_numbered : (i : Input) (r : Refusal) → refusal i ≡ Some r → (4 ≤ r.number) × (r.number ≤ 9)
+refusal_numbered : (i : Input) (r : Refusal) → refusal i ≡ Some r → Refusing r.number
 unfolding refusal
 refusal_numbered i = first_numbered (tests i) (numbered (unless (good_text i.literals)) (misfit i.nodes i.literals) (still_repeat i.nodes)
-    (unless (good_text i.text)) (unless (within 1 1024 i.depth_limit)) (unless (leb 515 (length i.report) && leb 4864 i.scratch)))
+    (unless (within 1 (line_count i.nodes) i.root)) (unless (good_text i.text)) (unless (within 1 1024 i.depth_limit))
+    (unless (leb 515 (length i.report) && leb 4864 i.scratch)))
 
 -- ── Started ──
 limit_ended : (k : LimitKind) (f : ℕ) → Ended (of_limit k f).number
@@ -85,8 +90,7 @@ module _ (i : Input) (before after : List ℕ) (o : RunOutcome) (a : Ran i o bef
   as_refused r e =
       let is : o.outcome ≡ refused i r = a.is ∙ refused_is i r e in
       record {
-        from = (refusal_numbered i r e).0;
-        to = (refusal_numbered i r e).1;
+        by = refusal_numbered i r e;
         number = ap (λ (x : Outcome). x.number) is;
         place = ap (λ (x : Outcome). x.place) is;
         count = ap (λ (x : Outcome). x.count) is;

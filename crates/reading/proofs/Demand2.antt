@@ -8,9 +8,9 @@ use Prim.Native.Nat.{ℕ, ◌≤◌}
 use native.Mathlib.Omega.{arith}
 use lib.ListN.{drop}
 use Rattle.reading.specs.Ending.{Ending, Ok, Err, Stop}
-use Rattle.reading.specs.Grammar.{root, plain}
+use Rattle.reading.specs.Grammar.{plain}
 use Rattle.reading.specs.Reading.{State}
-use Rattle.reading.specs.Outcome.{Input, refusal, setting, reading, answer, started, RunOutcome}
+use Rattle.reading.specs.Outcome.{Input, refusal, setting, root_tree, reading, answer, started, RunOutcome}
 use Rattle.reading.specs.Ford.{peg, rules_of, characters_of}
 use Rattle.reading.specs.Run.{Ran}
 use Rattle.reading.specs.Demand2.{Relates, Consumes, Fails, up_to, MatchOrFailure, Demand2}
@@ -26,7 +26,7 @@ no_stop (Stop x) h = absurd (omega (arith, (stop_number x.cause).0))
 
 module _ (i : Input) (e : refusal i ≡ None) where
   one_answer : (x y : Option (List ℕ)) → Relates i x → Relates i y → x ≡ y
-  one_answer x y f g = ford_unique (rules_of (setting i)) (peg (root i.nodes i.literals)) (characters_of i.text) x f y g
+  one_answer x y f g = ford_unique (rules_of (setting i)) (peg (root_tree i)) (characters_of i.text) x f y g
 
   abbrev number : ℕ
   number = (answer (reading i)).number

@@ -25,3 +25,5 @@ pub mod Demand3
 pub mod Trackers
 pub mod Limits
 pub mod Request5
+pub mod SameRules
+pub mod Request4

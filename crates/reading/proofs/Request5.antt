@@ -9,11 +9,11 @@ use native.Mathlib.Omega.{arith}
 use lib.IntN.{ℤ}
 use Rattle.reading.specs.declared.call_limit_tracker.LimitKind.{LimitKind}
 use Rattle.reading.specs.Ending.{Ending, Ok, Err, Stop}
-use Rattle.reading.specs.Grammar.{root}
+use Rattle.reading.specs.Grammar.{tree_at}
 use Rattle.reading.specs.Reading.{State, Tracker, initial, most_calls, calls_in, halted, is_set, over}
-use Rattle.reading.specs.Outcome.{Input, Refusal, refusal, setting, reading, Answer, answer, of_limit, Outcome, RunOutcome, calls_of}
+use Rattle.reading.specs.Outcome.{Input, Refusal, refusal, setting, root_tree, reading, Answer, answer, of_limit, Outcome, RunOutcome, calls_of}
 use Rattle.reading.specs.Run.{Ran}
-use Rattle.reading.specs.Demand1.{Refused}
+use Rattle.reading.specs.Demand1.{Refusing, tested, no_root, Refused}
 use Rattle.reading.specs.Demand2.{MatchOrFailure}
 use Rattle.reading.specs.Request5.{most_limit, CallsWithin, AlsoRan, NoSmaller, without, above, LargerLimits, EnoughCalls, Request5}
 use Rattle.reading.proofs.AnswerLaws.{stop_number}
@@ -70,9 +70,9 @@ module _ (first second : ℕ) (Past : ℕ → Type 0) (up : (n : ℕ) → Past n
   followed x y (off z w (off_err s (gone_past e))) n p = absurd (p s.tracker.counted refl e)
   followed x y (off z w (off_stop c s l)) n p = absurd (omega (arith, (stop_number c).0))
 
-  run_both : (ns : List ℤ) (l x : List ℕ) (n d d' : ℕ) → d ≤ d' → Both W Gone (run_of ns l x n d first) (run_of ns l x n d' second)
+  run_both : (ns : List ℤ) (l x : List ℕ) (r n d d' : ℕ) → d ≤ d' → Both W Gone (run_of ns l x r n d first) (run_of ns l x r n d' second)
   unfolding run_of
-  run_both ns l x n d d' h = (eval_follows first second Past up passes _ d d' h (root ns l)).alike (initial first) _ (wider 0)
+  run_both ns l x r n d d' h = (eval_follows first second Past up passes _ d d' h (tree_at ns l r)).alike (initial first) _ (wider 0)
 
 -- A result is its parts.
 result_same : (o p : RunOutcome) → p.outcome ≡ o.outcome → p.calls ≡ o.calls → p ≡ o
@@ -94,8 +94,8 @@ module _ (i j : Input) (p : RunOutcome) (a : AlsoRan i j p) where
     where
       beside_it : Both (W i.call_limit j.call_limit Past up passes) (Gone i.call_limit j.call_limit Past up passes) (reading i) (reading j)
       beside_it =
-          rw (run_is i, run_is j, ← a.nodes, ← a.literals, ← a.text, ← capacity_same i.tokens j.tokens a.tokens)
-          (run_both i.call_limit j.call_limit Past up passes _ _ _ _ _ _ deep)
+          rw (run_is i, run_is j, ← a.nodes, ← a.literals, ← a.text, ← a.root, ← capacity_same i.tokens j.tokens a.tokens)
+          (run_both i.call_limit j.call_limit Past up passes _ _ _ _ _ _ _ deep)
 
 -- ── One limit ──
 record Counted (limit : ℕ) (r : Ending State) : Type 0 where
@@ -124,7 +124,7 @@ run_counts : (i : Input) → Counted i.call_limit (reading i)
 unfolding reading
 run_counts i =
     counts i.call_limit _ _
-    ((eval_counts i.call_limit (setting i) i.depth_limit (root i.nodes i.literals)).alike (initial i.call_limit) _ (beside _ start))
+    ((eval_counts i.call_limit (setting i) i.depth_limit (root_tree i)).alike (initial i.call_limit) _ (beside _ start))
   where
     start : Counts i.call_limit (initial i.call_limit).tracker
     start = record { own = refl; within = λ h. omega arith; full = λ e. let z : ◌≡◌ {A = ℕ} 0 1 = cc in absurd (omega arith) }
@@ -135,14 +135,20 @@ no_smaller : (first second n : ℕ) → NoSmaller first second → over first n 
 no_smaller first second n without e f = omega (arith, (over_true 0 n f).0)
 no_smaller first second n (above m h k) e f = omega (arith, over_false first n e h, (over_true m n f).1)
 
--- 0 and 10 are numbers up to 10, and no refusal's.
+-- 0 and 10 are numbers up to 10, and no refusal's; nor is 11.
 up_to_ten : (n : ℕ) → MatchOrFailure n → n ≤ 10
 up_to_ten n (inl e) = omega arith
 up_to_ten n (inr e) = omega arith
 
-no_refusal : (n : ℕ) → MatchOrFailure n → 4 ≤ n → n ≤ 9 → ⊥
-no_refusal n (inl e) h l = omega arith
-no_refusal n (inr e) h l = omega arith
+no_refusal : (n : ℕ) → Refusing n → MatchOrFailure n → ⊥
+no_refusal n (tested m l h) (inl e) = omega arith
+no_refusal n (tested m l h) (inr e) = omega arith
+no_refusal n no_root (inl e) = omega arith
+no_refusal n no_root (inr e) = omega arith
+
+not_spent : (n : ℕ) → Refusing n → n ≡ 11 → ⊥
+not_spent n (tested m l h) e = omega arith
+not_spent n no_root e = omega arith
 
 module _ (i : Input) (o : RunOutcome) {before after : List ℕ} (a : Ran i o before after) where
   -- A run that gives 0 or 10 is started.
@@ -153,7 +159,7 @@ module _ (i : Input) (o : RunOutcome) {before after : List ℕ} (a : Ran i o bef
       go None e = refl
       go (Some r) e =
           let f : Refused i r o before after = (demand_1 i before after o a).refused r e in
-          absurd (no_refusal o.outcome.number s (omega (arith, f.number, f.from)) (omega (arith, f.number, f.to)))
+          absurd (no_refusal r.number f.by (subst MatchOrFailure f.number s))
 
   is_started : refusal i ≡ None → o.outcome.number ≡ (answer (reading i)).number
   is_started e = ap (λ (x : Outcome). x.number) (a.is ∙ outcome_is i e)
@@ -177,7 +183,11 @@ module _ (i : Input) (o : RunOutcome) {before after : List ℕ} (a : Ran i o bef
           }
       go (Some r) e =
           let f : Refused i r o before after = (demand_1 i before after o a).refused r e in
-          record { small = omega (arith, f.calls); within = λ h. omega (arith, f.calls); spent = λ u q. absurd (omega (arith, f.number, f.to)) }
+          record {
+            small = omega (arith, f.calls);
+            within = λ h. omega (arith, f.calls);
+            spent = λ u q. absurd (not_spent r.number f.by (sym f.number ∙ q));
+          }
 
   larger : LargerLimits i o
   larger = record {
@@ -202,6 +212,7 @@ changed_over i j o p {before = before} {after = after} a e b = record {
   nodes = sym b.nodes;
   literals = sym b.literals;
   text = sym b.text;
+  root = sym b.root;
   tokens = sym b.tokens;
   report = sym b.report;
 }

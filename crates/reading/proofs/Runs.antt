@@ -1,4 +1,4 @@
--- The laws of a run, from nothing but "the tests 4 to 9 passed": it agrees with pest's `state` (demand 2), its lists keep their bounds,
+-- The laws of a run, from nothing but "its tests passed": it agrees with pest's `state` (demand 2), its lists keep their bounds,
 -- and a plain grammar's run is what Ford's relation says.
 use mathlib.Core.Path.{◌≡◌, refl, sym, ap, ◌∙◌, subst}
 use mathlib.Core.Bool.{Bool, true}
@@ -11,12 +11,12 @@ use Rattle.reading.specs.declared.parser_state.Lookahead.{Lookahead}
 use Rattle.reading.specs.declared.parser_state.Atomicity.{Atomicity}
 use Rattle.reading.specs.Ending.{Ending, Ok, Span, Checkpoint}
 use Rattle.reading.specs.Forest.{Forest}
-use Rattle.reading.specs.Grammar.{Exp, line_count, rule_at, root, plain}
+use Rattle.reading.specs.Grammar.{Exp, tree_at, rule_at, plain}
 use Rattle.reading.specs.Reading as Reading
 use Rattle.reading.specs.Reading.{State, initial, most_entries}
 use Rattle.reading.specs.Pest as Pest
 use Rattle.reading.specs.Pest.{ParserState}
-use Rattle.reading.specs.Outcome.{Input, Refusal, refusal, capacity, setting, reading, Answer, answer, laid, refused, started as laid_out, Outcome}
+use Rattle.reading.specs.Outcome.{Input, Refusal, refusal, capacity, setting, root_tree, reading, Answer, answer, laid, refused, started as laid_out, Outcome}
 use Rattle.reading.specs.Outcome.{outcome, calls_of, counted_calls}
 use Rattle.reading.specs.Answer.{pest_answer, pest_calls, answer_to}
 use Rattle.reading.specs.Ford.{Ford, peg, rules_of, characters_of}
@@ -38,10 +38,10 @@ use Rattle.reading.proofs.Accepted.{tree_calls, body_calls, tree_steady, body_st
 pub capacity_same : (a b : List ℕ) → length a ≡ length b → capacity a ≡ capacity b
 capacity_same a b e = rw e
 
-unfoldable pub run_of : (nodes : List ℤ) → (literals text : List ℕ) → (capacity depth limit : ℕ) → Ending State
-run_of ns l x n d c = Reading.eval (record { text = x; rule_at = rule_at ns l; capacity = n }) d (root ns l) (initial c)
+unfoldable pub run_of : (nodes : List ℤ) → (literals text : List ℕ) → (root capacity depth limit : ℕ) → Ending State
+run_of ns l x r n d c = Reading.eval (record { text = x; rule_at = rule_at ns l; capacity = n }) d (tree_at ns l r) (initial c)
 
-pub run_is : (i : Input) → reading i ≡ run_of i.nodes i.literals i.text (capacity i.tokens) i.depth_limit i.call_limit
+pub run_is : (i : Input) → reading i ≡ run_of i.nodes i.literals i.text i.root (capacity i.tokens) i.depth_limit i.call_limit
 unfolding reading run_of
 run_is i = refl
 
@@ -63,13 +63,13 @@ module _ (i : Input) (e : refusal i ≡ None) where
   g = s.grammar
 
   abbrev pub at_root : Exp
-  at_root = root i.nodes i.literals
+  at_root = root_tree i
 
   pub root_literals : Literals at_root
-  root_literals = tree_literals i.nodes i.literals g (line_count i.nodes)
+  root_literals = tree_literals i.nodes i.literals g i.root
 
   pub root_steady : Steady (rule_still i.nodes) at_root
-  root_steady = tree_steady i.nodes i.literals g (rule_still i.nodes) (rule_still_is i.nodes) (line_count i.nodes)
+  root_steady = tree_steady i.nodes i.literals g (rule_still i.nodes) (rule_still_is i.nodes) i.root
 
   pub outcome_is : outcome i ≡ laid_out i (answer (reading i))
   unfolding outcome
@@ -152,20 +152,20 @@ module _ (i : Input) (e : refusal i ≡ None) where
     pub ford : (o : Option (List ℕ)) → Recognised (setting i) (reading i) o → Ford (rules_of (setting i)) (peg at_root) (characters_of i.text) o
     unfolding reading
     ford o h = ford_at (setting i) (rule_still i.nodes) (tested i g) (RuleLine i.nodes) rules s.text_whole i.depth_limit i.call_limit at_root
-        (tree_plain i.nodes i.literals g p (line_count i.nodes)) (tree_calls i.nodes i.literals g (line_count i.nodes)) root_literals root_steady o h
+        (tree_plain i.nodes i.literals g p i.root) (tree_calls i.nodes i.literals g i.root) root_literals root_steady o h
 
     -- "a run gives 0 only where Ford's relation consumes a prefix of the text"
     pub ford_0 : (answer (reading i)).number ≡ 0 → (y : List ℕ) × Ford (rules_of (setting i)) (peg at_root) (characters_of i.text) (Some y)
         × ((c : List ℕ) × (characters_of i.text ≡ c ++ y))
     unfolding reading
     ford_0 q = ford_parsed (setting i) (rule_still i.nodes) (tested i g) (RuleLine i.nodes) rules s.text_whole i.depth_limit i.call_limit at_root
-        (tree_plain i.nodes i.literals g p (line_count i.nodes)) (tree_calls i.nodes i.literals g (line_count i.nodes)) root_literals root_steady q
+        (tree_plain i.nodes i.literals g p i.root) (tree_calls i.nodes i.literals g i.root) root_literals root_steady q
 
     -- "and 10 only where it fails"
     pub ford_10 : (answer (reading i)).number ≡ 10 → Ford (rules_of (setting i)) (peg at_root) (characters_of i.text) None
     unfolding reading
     ford_10 q = ford_failed (setting i) (rule_still i.nodes) (tested i g) (RuleLine i.nodes) rules s.text_whole i.depth_limit i.call_limit at_root
-        (tree_plain i.nodes i.literals g p (line_count i.nodes)) (tree_calls i.nodes i.literals g (line_count i.nodes)) root_literals root_steady q
+        (tree_plain i.nodes i.literals g p i.root) (tree_calls i.nodes i.literals g i.root) root_literals root_steady q
 
     -- What Ford's relation leaves is the text from the position on at which the reading ended.
     pub left_over : (answer (reading i)).number ≡ 0 → (t : State) → reading i ≡ Ok t

@@ -1,5 +1,5 @@
 -- The cases M1 to M10 of document 01, "Plans on the test desk", of the reading, in one table: each run is started, and answers.
-use Rattle.std.specs.Prelude.{◌≡◌, refl, List, [], ◌∷◌, map, ℕ, replicate, ℤ, pos, negsuc}
+use Rattle.std.specs.Prelude.{◌≡◌, refl, List, [], ◌∷◌, map, ℕ, length, replicate, ℤ, pos, negsuc}
 use Rattle.std.specs.Prelude.{Option, None}
 use Rattle.matching.specs.Utf8.{decode, characters}
 use Rattle.matching.specs.Position.{match_by, match_char_by}
@@ -30,12 +30,13 @@ record Case : Type 0 where
 abbrev case : List Node → (text : List ℕ) → (depth calls : ℕ) → Answer → Case
 case ns t d l a = record { nodes = ns; text = t; depth = d; calls = l; expected = a }
 
--- What the run of a case is handed: room for two tokens, and the other areas as short as they may be.
+-- What the run of a case is handed: the last line for its root, room for two tokens, and the other areas as short as they may be.
 abbrev handed : Case → Input
 handed c = record {
   nodes = numbers c.nodes;
   literals = 97 ∷ 98 ∷ 99 ∷ [];
   text = c.text;
+  root = length c.nodes;
   depth_limit = c.depth;
   call_limit = c.calls;
   tokens = replicate 10 0;
@@ -43,7 +44,7 @@ handed c = record {
   scratch = 4864;
 }
 
--- Which of the tests 4 to 9 refuses a case's run, if one does, and the answer of the reading.
+-- Which of a run's tests refuses a case's run, if one does, and the answer of the reading.
 record Given : Type 0 where
   refused : Option Refusal
   answered : Answer

@@ -21,10 +21,14 @@ pub data Within (i : Input) : Ending State → Type 0 where
   bounded_err : (t : State) → Bounded i t → Within i (Err t)
   bounded_stop : (h : Halted) → Within i (Stop h)
 
--- "Refused by number, with the areas left as document 01 fixes": one of 4 to 9, and all areas as they were.
+-- The numbers of a run's refusals: 4 to 9 and (document 02, request 4) 18.
+pub data Refusing : ℕ → Type 0 where
+  tested : (n : ℕ) → 4 ≤ n → n ≤ 9 → Refusing n
+  no_root : Refusing 18
+
+-- "Refused by number, with the areas left as document 01 fixes": all areas as they were.
 pub record Refused (i : Input) (r : Refusal) (o : RunOutcome) (before after : List ℕ) : Type 0 where
-  pub from : 4 ≤ r.number
-  pub to : r.number ≤ 9
+  pub by : Refusing r.number
   pub number : o.outcome.number ≡ r.number
   pub place : o.outcome.place ≡ r.place
   pub count : o.outcome.count ≡ 0

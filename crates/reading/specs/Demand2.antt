@@ -3,16 +3,16 @@ use Rattle.std.specs.Prelude.{◌≡◌, List, ◌++◌, ◌↔◌, ◌⊎◌, �
 use Rattle.std.specs.Prelude.{Option, None, Some}
 use Rattle.reading.specs.Ending.{Ending, Ok}
 use Rattle.reading.specs.Reading.{State}
-use Rattle.reading.specs.Grammar.{root, plain}
+use Rattle.reading.specs.Grammar.{plain}
 use Rattle.reading.specs.Pest as Pest
 use Rattle.reading.specs.Pest.{ParserState, Result}
-use Rattle.reading.specs.Outcome.{Input, setting, reading, started, Outcome}
+use Rattle.reading.specs.Outcome.{Input, setting, root_tree, reading, started, Outcome}
 use Rattle.reading.specs.Answer.{answer_to}
 use Rattle.reading.specs.Ford.{Ford, peg, rules_of, characters_of}
 
 -- Ford's relation of the grammar and the text's characters: `some y` where it consumes a prefix and leaves y, none where it fails.
 abbrev pub Relates : Input → Option (List ℕ) → Type 0
-Relates i o = Ford (rules_of (setting i)) (peg (root i.nodes i.literals)) (characters_of i.text) o
+Relates i o = Ford (rules_of (setting i)) (peg (root_tree i)) (characters_of i.text) o
 
 -- "Ford's relation consumes a prefix of the text"
 pub record Consumes (i : Input) (prefix : List ℕ) : Type 0 where
@@ -34,10 +34,10 @@ MatchOrFailure n = (n ≡ 0) ⊎ (n ≡ 10)
 
 -- How pest's own evaluation ends, and what its `state` gives. `spent` stands for a loop whose rounds are used up (`loop` of Pest).
 abbrev pub pest_ending : Input → (spent : ParserState → Ending ParserState) → Ending ParserState
-pest_ending i spent = Pest.ending spent (setting i) i.depth_limit i.call_limit (root i.nodes i.literals)
+pest_ending i spent = Pest.ending spent (setting i) i.depth_limit i.call_limit (root_tree i)
 
 abbrev pub pest_state : Input → (spent : ParserState → Ending ParserState) → Result
-pest_state i spent = Pest.state spent (setting i) i.depth_limit i.call_limit (root i.nodes i.literals)
+pest_state i spent = Pest.state spent (setting i) i.depth_limit i.call_limit (root_tree i)
 
 pub record Demand2 (i : Input) (o : Outcome) : Type 0 where
   -- "For every accepted grammar, text and pair of limits whose run stops for no added reason (13 to 16), the outcome, tokens, furthest

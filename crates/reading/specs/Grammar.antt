@@ -194,10 +194,6 @@ module _ (ns : List ℤ) (literals : List ℕ) where
   abbrev pub tree_at : (line : ℕ) → Exp
   tree_at l = get_or (trees (line_count ns)) (l - 1) end_of_input
 
-  -- "the last is the root"
-  abbrev pub root : Exp
-  root = tree_at (line_count ns)
-
   abbrev pub rule_at : (line : ℕ) → RuleLine
   rule_at l = record { line = l; rule = natural (node_at ns l).a; body = tree_at (natural (node_at ns l).b) }
 

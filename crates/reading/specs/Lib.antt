@@ -14,4 +14,5 @@ pub mod Run
 pub mod Demand1
 pub mod Demand2
 pub mod Demand3
+pub mod Request4
 pub mod Request5

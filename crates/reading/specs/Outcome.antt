@@ -7,16 +7,18 @@ use Rattle.reading.specs.declared.parser_state.Cause.TheVariants.{EmptyStack, To
 use Rattle.reading.specs.declared.call_limit_tracker.LimitKind.{LimitKind}
 use Rattle.reading.specs.declared.call_limit_tracker.LimitKind.TheVariants.{Call, Stack}
 use Rattle.reading.specs.Ending.{Ending, Ok, Err, Stop}
-use Rattle.reading.specs.Grammar.{misfit, root, rule_at}
+use Rattle.reading.specs.Grammar.{Exp, line_count, misfit, tree_at, rule_at}
 use Rattle.reading.specs.Nullable.{still_repeat}
 use Rattle.reading.specs.Forest.{Token, tokens}
 use Rattle.reading.specs.Reading.{State, Setting, initial, calls_in, eval}
 
--- What a run is handed: nodes, literal text, text, limits, the two areas as they are at its start, and the size of scratch.
+-- What a run is handed: nodes, literal text, text, root line (document 02, request 4: "A run names its root line"), limits, the two areas
+-- as they are at its start, and the size of scratch.
 pub record Input : Type 0 where
   pub nodes : List ℤ
   pub literals : List ℕ
   pub text : List ℕ
+  pub root : ℕ
   pub depth_limit : ℕ
   pub call_limit : ℕ
   pub tokens : List ℕ
@@ -41,14 +43,16 @@ abbrev pub good_text : List ℕ → Bool
 good_text x = leb (length x) 65535 && is_utf8 x
 
 -- The tests of a run, in order, by all that they look at: `report` and `scratch` are sizes.
-abbrev pub tests_on : List ℤ → (literals text : List ℕ) → (depth_limit report scratch : ℕ) → List (Option Refusal)
-tests_on nodes literals text depth report scratch =
+abbrev pub tests_on : List ℤ → (literals text : List ℕ) → (root depth_limit report scratch : ℕ) → List (Option Refusal)
+tests_on nodes literals text root depth report scratch =
     -- "literal text over 65,535 bytes or not UTF-8"
     refuse 4 (unless (good_text literals))
     -- "nodes not 1 to 4,096 fours; a line against the table"
     ∷ refuse 5 (misfit nodes literals)
     -- "repeat body may stand still"
     ∷ refuse 6 (still_repeat nodes)
+    -- Document 02, request 4: "root not a line of the sheet, place 0, tested after 6"
+    ∷ refuse 18 (unless (within 1 (line_count nodes) root))
     -- "text over 65,535 bytes or not UTF-8"
     ∷ refuse 7 (unless (good_text text))
     -- "depth limit not 1 to 1,024"
@@ -58,7 +62,7 @@ tests_on nodes literals text depth report scratch =
     ∷ []
 
 abbrev pub tests : Input → List (Option Refusal)
-tests i = tests_on i.nodes i.literals i.text i.depth_limit (length i.report) i.scratch
+tests i = tests_on i.nodes i.literals i.text i.root i.depth_limit (length i.report) i.scratch
 
 abbrev pub first_of : List (Option Refusal) → Option Refusal
 first_of [] = None
@@ -66,8 +70,8 @@ first_of (None ∷ ts) = first_of ts
 first_of (Some r ∷ ts) = Some r
 
 -- The first test that fails.
-abbrev pub refusal_on : List ℤ → (literals text : List ℕ) → (depth_limit report scratch : ℕ) → Option Refusal
-refusal_on nodes literals text depth report scratch = first_of (tests_on nodes literals text depth report scratch)
+abbrev pub refusal_on : List ℤ → (literals text : List ℕ) → (root depth_limit report scratch : ℕ) → Option Refusal
+refusal_on nodes literals text root depth report scratch = first_of (tests_on nodes literals text root depth report scratch)
 
 -- The refusal of an input; none where "a run is started".
 unfoldable pub refusal : Input → Option Refusal
@@ -81,8 +85,12 @@ capacity area = min (length area / 5) 65535
 abbrev pub setting : Input → Setting
 setting i = record { text = i.text; rule_at = rule_at i.nodes i.literals; capacity = capacity i.tokens }
 
+-- The tree of the root line.
+abbrev pub root_tree : Input → Exp
+root_tree i = tree_at i.nodes i.literals i.root
+
 unfoldable pub reading : Input → Ending State
-reading i = eval (setting i) i.depth_limit (root i.nodes i.literals) (initial i.call_limit)
+reading i = eval (setting i) i.depth_limit (root_tree i) (initial i.call_limit)
 
 -- ── The answer to an ending ──
 -- Number, place, count, the tokens, and what stands in the report before its zeros.

@@ -17,7 +17,7 @@ pub record CallsWithin (i : Input) (o : RunOutcome) : Type 0 where
   pub spent : i.call_limit ≤ most_limit → o.outcome.number ≡ 11 → o.calls ≡ i.call_limit
 
 -- "every run of the same grammar, text and area sizes that isn't refused": the areas may hold other numbers, and scratch may be of
--- another size.
+-- another size. Request 4: "Here and later, runs compared so share root".
 pub record AlsoRan (i j : Input) (p : RunOutcome) : Type 0 where
   pub before : List ℕ
   pub after : List ℕ
@@ -26,6 +26,7 @@ pub record AlsoRan (i j : Input) (p : RunOutcome) : Type 0 where
   pub nodes : i.nodes ≡ j.nodes
   pub literals : i.literals ≡ j.literals
   pub text : i.text ≡ j.text
+  pub root : i.root ≡ j.root
   pub tokens : length i.tokens ≡ length j.tokens
   pub report : length i.report ≡ length j.report
 

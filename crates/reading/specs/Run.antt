@@ -3,11 +3,12 @@ use Rattle.std.specs.Prelude.{◌≡◌, List, ℕ, ℤ}
 use Rattle.std.specs.Prelude.{Some}
 use Rattle.reading.specs.Outcome.{Input, Refusal, refusal, outcome, RunOutcome, counted_calls}
 
-abbrev pub input : List ℤ → (literals text : List ℕ) → (depth_limit call_limit : ℕ) → (tokens report : List ℕ) → (scratch : ℕ) → Input
-input nodes literals text depth calls tokens report scratch = record {
+abbrev pub input : List ℤ → (literals text : List ℕ) → (root depth_limit call_limit : ℕ) → (tokens report : List ℕ) → (scratch : ℕ) → Input
+input nodes literals text root depth calls tokens report scratch = record {
   nodes = nodes;
   literals = literals;
   text = text;
+  root = root;
   depth_limit = depth;
   call_limit = calls;
   tokens = tokens;
@@ -21,5 +22,5 @@ pub record Ran (i : Input) (o : RunOutcome) (before after : List ℕ) : Type 0 w
   pub is : o.outcome ≡ outcome i
   -- The counted calls are those of document 02, request 5.
   pub counted : o.calls ≡ counted_calls i
-  -- 4 to 9 leave "all areas", scratch too. "Scratch after a started run is free".
+  -- 4 to 9 and 18 leave "all areas", scratch too. "Scratch after a started run is free".
   pub left : (r : Refusal) → refusal i ≡ Some r → after ≡ before

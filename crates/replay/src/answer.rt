@@ -16,7 +16,7 @@ pub(crate) struct Numbers {
 impl Numbers {
     // Neither area of a refused run is written.
     pub(crate) fn is_refusal(self) -> bool {
-        matches!(self.number, 4..=9)
+        matches!(self.number, 4..=9 | 18)
     }
 }
 

@@ -17,6 +17,7 @@ struct Lengths {
 struct Head {
     running: u32,
     numbers: Numbers,
+    root: u32,
     depth_limit: u32,
     call_limit: u32,
     areas: Lengths,
@@ -46,6 +47,7 @@ impl Head {
                 count: words.number()?,
                 calls: u64::from(words.long()?),
             },
+            root: words.long()?,
             depth_limit: words.long()?,
             call_limit: words.long()?,
             areas: Lengths {
@@ -118,6 +120,7 @@ impl Record {
             self.nodes.as_slice(),
             self.literals.as_slice(),
             self.text.as_slice(),
+            self.head.root,
             self.head.depth_limit,
             self.head.call_limit,
             tokens.as_mut_slice(),

@@ -7,7 +7,7 @@ use crate::case::Case;
 /// A file holds whole records and is never longer than this.
 pub const LONGEST_FILE: usize = 65_536;
 /// Words before a record's lists.
-const HEAD: usize = 24;
+const HEAD: usize = 26;
 /// Stands for a number that one word does not hold; two words follow.
 const WIDE: u16 = 0x8000;
 /// What fills a text up to its length.
@@ -38,6 +38,7 @@ impl Record {
         let mut words = vec![0, running];
         words.extend([self.outcome.number, self.outcome.place, self.outcome.count].map(word));
         words.extend(pair(calls(self.outcome.calls)));
+        words.extend(pair(self.case.root));
         words.extend(pair(self.case.depth_limit));
         words.extend(pair(self.case.call_limit));
         words.extend([self.case.tokens, self.case.report, self.case.scratch].map(length));
@@ -75,7 +76,7 @@ impl Record {
         let mut reader = Reader { words: &words[2..] };
         let [number, place, count] = [(); 3].map(|()| reader.word());
         let outcome = Outcome { number, place, count, calls: reader.pair().into() };
-        let (depth_limit, call_limit) = (reader.pair(), reader.pair());
+        let [root, depth_limit, call_limit] = [(); 3].map(|()| reader.pair());
         let [tokens, report, scratch] = [(); 3].map(|()| reader.word() as usize);
         let [nodes_given, nodes_in_all, literals_given] = [(); 3].map(|()| reader.word() as usize);
         let literals_in_all = reader.pair() as usize;
@@ -90,7 +91,8 @@ impl Record {
         let mut text = reader.bytes(text_given);
         text.resize(text_in_all, FILLER);
         let held = if outcome.number == 0 { 5 * outcome.count as usize } else { 0 };
-        let case = Case { nodes, literals, text, depth_limit, call_limit, tokens, report, scratch };
+        let case =
+            Case { nodes, literals, text, root, depth_limit, call_limit, tokens, report, scratch };
         let record = Record {
             case,
             outcome,
@@ -104,7 +106,7 @@ impl Record {
 
     /// What the areas hold after the run, given what fills them before it.
     pub fn areas(&self, fill: u32) -> (Vec<u32>, Vec<u32>) {
-        if (4..=9).contains(&self.outcome.number) {
+        if self.outcome.is_refusal() {
             return (vec![fill; self.case.tokens], vec![fill; self.case.report]);
         }
         let mut tokens = self.tokens.clone();
@@ -211,6 +213,7 @@ mod tests {
     fn a_record_is_read_as_it_was_written() {
         let nodes = [[3, -1, i32::MIN, 0x8000], [16, -32_768, -32_767, 32_767]];
         let case = Case {
+            root: 0x8000_0001,
             call_limit: u32::MAX,
             text: [b"b".as_slice(), &[b'a'; 65_536]].concat(),
             ..Case::new(&nodes, "aé", "")

@@ -3,8 +3,9 @@
 use oracle::Outcome;
 
 use crate::case::Case;
+use crate::roots;
 
-/// What document 01 gives a case: its number, and its counted calls if it is about them.
+/// What the documents give a case: its number, and its counted calls if it is about them.
 #[derive(Clone, Copy, Debug)]
 pub struct Expected {
     pub number: u32,
@@ -20,7 +21,8 @@ impl Expected {
 /// All of them.
 pub fn expected() -> Vec<(Case, Expected)> {
     let of = |number, calls| Expected { number, calls };
-    let cases = cases().into_iter().map(|(case, number)| (case, of(number, None)));
+    let cases = cases().into_iter().chain(roots::cases());
+    let cases = cases.map(|(case, number)| (case, of(number, None)));
     let counted =
         counted().into_iter().map(|(case, number, calls)| (case, of(number, Some(calls))));
     cases.chain(counted).collect()
@@ -255,7 +257,7 @@ fn counted_refusals() -> Vec<(Case, u32, u64)> {
         (of(&restoring, 1_024, 2), 0, 2),
         (of(&nested, 0, 0), 8, 0),
         (Case { literals: vec![0xFF], ..nested.clone() }, 4, 0),
-        (Case { nodes: Vec::new(), ..nested.clone() }, 5, 0),
+        (Case { nodes: Vec::new(), ..nested.clone() }.from_last_line(), 5, 0),
         (on_a(&[A, [11, 1, 0, 0], [10, 2, 0, 0]]), 6, 0),
         (Case { text: vec![0xFF], ..nested.clone() }, 7, 0),
         (Case { report: oracle::REPORT - 1, ..nested }, 9, 0),

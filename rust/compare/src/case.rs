@@ -9,6 +9,7 @@ pub struct Case {
     pub nodes: Vec<i32>,
     pub literals: Vec<u8>,
     pub text: Vec<u8>,
+    pub root: u32,
     pub depth_limit: u32,
     pub call_limit: u32,
     pub tokens: usize,
@@ -17,12 +18,13 @@ pub struct Case {
 }
 
 impl Case {
-    /// With areas that are long enough, and no limit that small cases meet.
+    /// From the last line, with areas that are long enough, and no limit that small cases meet.
     pub fn new(nodes: &[[i32; 4]], literals: &str, text: &str) -> Case {
         Case {
             nodes: nodes.concat(),
             literals: literals.into(),
             text: text.into(),
+            root: nodes.len() as u32,
             depth_limit: oracle::DEEPEST,
             call_limit: 0,
             tokens: 100,
@@ -36,6 +38,7 @@ impl Case {
             nodes: &self.nodes,
             literals: &self.literals,
             text: &self.text,
+            root: self.root,
             depth_limit: self.depth_limit,
             call_limit: self.call_limit,
         }
@@ -43,6 +46,11 @@ impl Case {
 
     pub fn lines(&self) -> usize {
         self.nodes.len() / 4
+    }
+
+    /// The case from its last line, whichever its root was.
+    pub fn from_last_line(self) -> Case {
+        Case { root: self.lines() as u32, ..self }
     }
 }
 
@@ -54,12 +62,23 @@ impl fmt::Display for Case {
         writeln!(f, "  node numbers: {}", self.nodes.len())?;
         writeln!(f, "  literals: {}", shown(&self.literals))?;
         writeln!(f, "  text: {}", shown(&self.text))?;
-        writeln!(f, "  depth limit {}, call limit {}", self.depth_limit, self.call_limit)?;
+        write!(f, "  root {}, ", self.root)?;
+        writeln!(f, "depth limit {}, call limit {}", self.depth_limit, self.call_limit)?;
         write!(
             f,
             "  areas: tokens {}, report {}, scratch {}",
             self.tokens, self.report, self.scratch
         )
+    }
+}
+
+/// Which fields of a kind name lines.
+pub fn line_fields(kind: i32) -> &'static [usize] {
+    match kind {
+        6 | 7 => &[1, 2],
+        8 => &[2],
+        9..=14 | 18 | 20 => &[1],
+        _ => &[],
     }
 }
 

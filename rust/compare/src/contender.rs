@@ -45,6 +45,7 @@ mod library {
                 &case.nodes,
                 &case.literals,
                 &case.text,
+                case.root,
                 case.depth_limit,
                 case.call_limit,
                 &mut areas.tokens,

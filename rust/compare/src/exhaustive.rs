@@ -7,7 +7,9 @@ pub const LITERALS: &str = "abAé";
 const LETTERS: [&str; 3] = ["a", "b", "é"];
 
 /// Depth limit, call limit, tokens area.
-pub const SETTINGS: [(u32, u32, usize); 8] = [
+pub type Setting = (u32, u32, usize);
+
+pub const SETTINGS: [Setting; 8] = [
     (1_024, 0, 100),
     (1, 0, 100),
     (2, 0, 100),
@@ -95,13 +97,9 @@ pub fn texts(letters: usize, length: usize) -> Vec<String> {
     all
 }
 
-pub fn case(nodes: &[i32], text: &str, setting: (u32, u32, usize)) -> Case {
+/// From the last line.
+pub fn case(nodes: &[i32], text: &str, setting: Setting) -> Case {
     let (depth_limit, call_limit, tokens) = setting;
-    Case {
-        nodes: nodes.to_vec(),
-        depth_limit,
-        call_limit,
-        tokens,
-        ..Case::new(&[], LITERALS, text)
-    }
+    let case = Case::new(&[], LITERALS, text);
+    Case { nodes: nodes.to_vec(), depth_limit, call_limit, tokens, ..case }.from_last_line()
 }

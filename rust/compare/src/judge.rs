@@ -9,6 +9,9 @@
 //! A started case is run again with other limits (`limits.rs`), and each such run is compared as a
 //! case of its own.
 //!
+//! Two sheets that agree on what their root reaches (`pairs.rs`) are compared each as a case, and have
+//! to give the same.
+//!
 //! A plain grammar's 0 and 10 are also held against Ford's relation.
 //!
 //! A watched case is read once more with small capacities, on both sides, and pest's whole
@@ -24,6 +27,8 @@ use reference::{Ending, Limit, Sheet};
 use crate::case::{Areas, Case, FILL};
 use crate::contender::Contender;
 use crate::limits::{self, Law};
+use crate::pairs::Pair;
+use crate::roots;
 
 /// Lines evaluated before a case is given up: backtracking may be exponential.
 pub const STEPS: u64 = 20_000;
@@ -33,6 +38,9 @@ const WATCHED_STEPS: u64 = 400;
 const STOPPED_STEPS: u64 = 5_000;
 /// Longest tokens area with which pest's state is looked at: each look shows the whole queue.
 const MOST_WATCHED: usize = 5_000;
+
+/// The numbers that a run returns are below this.
+pub const NUMBERS: usize = 19;
 
 #[derive(Debug)]
 pub struct Difference(pub String);
@@ -46,10 +54,10 @@ impl fmt::Display for Difference {
 /// What pest comes to within capacities.
 type Within = Result<(Ending, watch::Final), watch::Stop>;
 
-/// Sixteen numbers, and cases given up.
+/// How often each number came, and cases given up.
 #[derive(Clone, Default)]
 pub struct Tally {
-    pub numbers: [u64; 17],
+    pub numbers: [u64; NUMBERS],
     pub given_up: u64,
     /// Runs of pest that were compared: plain, and with its state looked at.
     pub pest: u64,
@@ -129,9 +137,23 @@ impl Judge {
         };
         self.tally.numbers[outcome.number as usize] += 1;
         self.check(case, outcome)?;
-        if !(4..=9).contains(&outcome.number) {
+        if !outcome.is_refusal() {
             self.check_started(case, outcome, small)?;
         }
+        Ok(Some(outcome))
+    }
+
+    /// Compares everyone on both cases of a pair, and the one with the other: what request 4 promises.
+    pub fn judge_pair(&mut self, pair: &Pair) -> Result<Option<Outcome>, Difference> {
+        let Some(outcome) = self.answer(&pair.one) else {
+            self.tally.given_up += 1;
+            return Ok(None);
+        };
+        self.tally.numbers[outcome.number as usize] += 1;
+        self.check(&pair.one, outcome)?;
+        mem::swap(&mut self.areas, &mut self.first);
+        self.check_again(&pair.other, outcome, Law::Same)
+            .map_err(|Difference(what)| Difference(format!("of the other sheet: {what}")))?;
         Ok(Some(outcome))
     }
 
@@ -164,8 +186,11 @@ impl Judge {
         if !limits::bounds_calls(case, outcome) {
             return different("calls and their limit", &outcome, &case.call_limit);
         }
+        if !outcome.is_refusal() && !roots::is_line(case.root, case.lines()) {
+            return different("started from no line", &outcome, &case.root);
+        }
         match outcome.number {
-            4..=9 => check_untouched(&self.areas)?,
+            _ if outcome.is_refusal() => check_refused(outcome, &self.areas)?,
             0 | 10..=12 => self.check_plain(case, outcome)?,
             _ => self.check_stopped(case, outcome)?,
         }
@@ -193,7 +218,7 @@ impl Judge {
         Ok(())
     }
 
-    /// The case with other limits: the law first, then everyone.
+    /// The case with other limits or another sheet: the law first, then everyone.
     fn check_again(&mut self, again: &Case, first: Outcome, law: Law) -> Result<(), Difference> {
         let Some(other) = self.answer(again) else {
             return match law {
@@ -220,7 +245,7 @@ impl Judge {
         self.tally.ford += 1;
         let reading = read(case, oracle::Capacities::of(case.tokens), self.steps);
         let prefix = (outcome.number == 0).then_some(reading.last.position);
-        let consumed = ford::consume(&nodes, &case.literals, &case.text);
+        let consumed = ford::consume(&nodes, &case.literals, &case.text, case.root);
         if consumed != prefix {
             return different("Ford's relation and the reading", &consumed, &prefix);
         }
@@ -289,14 +314,15 @@ impl Judge {
             debt: capacities.debt,
             attempts: capacities.attempts,
         };
-        let pest = state_within(&sheet, text(case), case.depth_limit, case.call_limit, within);
+        let Case { root, depth_limit, call_limit, .. } = *case;
+        let pest = state_within(&sheet, text(case), root, depth_limit, call_limit, within);
         let ours = match reading.ending {
             Err(stop) => {
                 let (number, line) = stop.number_and_line();
-                let calls = Calls::both(reading.last.calls, case.call_limit);
+                let calls = Calls::both(reading.last.calls, call_limit);
                 Err(watch::Stop { number, line: line as u32, calls })
             }
-            Ok(ok) => Ok((ending_of(&reading), final_of(ok, &reading.last, case.call_limit))),
+            Ok(ok) => Ok((ending_of(&reading), final_of(ok, &reading.last, call_limit))),
         };
         if pest != ours {
             return different(&format!("within {capacities:?}"), &pest, &ours);
@@ -314,7 +340,7 @@ impl Judge {
             if self.others != self.areas {
                 return different(contender.name(), &self.others, &self.areas);
             }
-            if (4..=9).contains(&outcome.number) && !contender.left_scratch() {
+            if outcome.is_refusal() && !contender.left_scratch() {
                 return different(contender.name(), &"wrote scratch", &"a refused run leaves it");
             }
         }
@@ -330,7 +356,7 @@ fn read(case: &Case, capacities: oracle::Capacities, steps: u64) -> oracle::Read
 /// pest's own end, and its counted calls.
 pub fn pest(case: &Case) -> (Ending, Calls) {
     let sheet = Sheet::new(&case.nodes, literals(case));
-    counted_state(&sheet, text(case), case.depth_limit, case.call_limit)
+    counted_state(&sheet, text(case), case.root, case.depth_limit, case.call_limit)
 }
 
 // A started run's texts are UTF-8: it passed tests 4 and 7.
@@ -343,7 +369,12 @@ fn text(case: &Case) -> &str {
     std::str::from_utf8(&case.text).expect("test 7")
 }
 
-fn check_untouched(areas: &Areas) -> Result<(), Difference> {
+/// Nothing but a refused line is a place, nothing is counted, and all areas are as they were.
+fn check_refused(outcome: Outcome, areas: &Areas) -> Result<(), Difference> {
+    let names_a_line = matches!(outcome.number, 5 | 6);
+    if outcome.count != 0 || (outcome.place != 0 && !names_a_line) {
+        return Err(Difference(format!("no refusal is like that: {outcome:?}")));
+    }
     if areas.tokens.iter().chain(&areas.report).any(|number| *number != FILL) {
         return Err(Difference("a refusal wrote to an area".into()));
     }
@@ -483,7 +514,7 @@ mod tests {
             let mut judge = Judge::new(Vec::new());
             let mut rng = Rng::new(7);
             for _ in 0..5_000 {
-                let case = random::case(&mut rng, 24);
+                let case = random::rooted_case(&mut rng, 24);
                 judge.judge(&case, None).unwrap_or_else(|e| panic!("{e}\n{case}"));
             }
         });

@@ -60,7 +60,7 @@ fn above(call_limit: u32) -> u32 {
 pub fn bounds_calls(case: &Case, outcome: Outcome) -> bool {
     let limit = u64::from(case.call_limit);
     match outcome.number {
-        4..=9 => outcome.calls == 0,
+        _ if outcome.is_refusal() => outcome.calls == 0,
         11 => limit > 0 && outcome.calls == limit,
         _ => limit == 0 || outcome.calls <= limit,
     }

@@ -1,6 +1,6 @@
 //! Makes a failing case smaller while it still fails.
 
-use crate::case::Case;
+use crate::case::{line_fields, Case};
 
 /// Bytes of a text that is long.
 const LONG: usize = 200;
@@ -33,6 +33,7 @@ fn smaller_ones(case: &Case) -> Vec<Case> {
             all.push(other);
         }
     };
+    with(&|case| case.root = case.lines() as u32);
     with(&|case| case.call_limit = 0);
     with(&|case| case.depth_limit = 1_024);
     with(&|case| case.tokens = 400);
@@ -49,7 +50,7 @@ fn shorter_texts(case: &Case) -> impl Iterator<Item = Case> + '_ {
     tails.map(move |tail| Case { text: case.text[..length - tail].to_vec(), ..case.clone() })
 }
 
-/// What names the line names its first child instead, and the line goes.
+/// What names the line, the root too, names its first child instead, and the line goes.
 fn without_line(case: &Case, line: usize) -> Option<Case> {
     if case.lines() < 2 {
         return None;
@@ -71,21 +72,15 @@ fn without_line(case: &Case, line: usize) -> Option<Case> {
         }
         nodes.extend(node);
     }
-    Some(Case { nodes, ..case.clone() })
+    let root = match i32::try_from(case.root) {
+        Ok(root) => renamed(root) as u32,
+        Err(_) => case.root,
+    };
+    Some(Case { nodes, root, ..case.clone() })
 }
 
 fn child(node: &[i32]) -> Option<i32> {
     line_fields(node[0]).first().map(|field| node[*field])
-}
-
-/// Which fields of a kind name lines.
-fn line_fields(kind: i32) -> &'static [usize] {
-    match kind {
-        6 | 7 => &[1, 2],
-        8 => &[2],
-        9..=14 | 18 | 20 => &[1],
-        _ => &[],
-    }
 }
 
 /// The line becomes a `skip(0)`, or a `skip(1)`, if it is neither.

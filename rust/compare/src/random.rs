@@ -5,14 +5,28 @@ use oracle::Node;
 
 use crate::case::Case;
 use crate::rng::Rng;
-use crate::sample;
+use crate::{roots, sample};
 
 /// One to four bytes a letter, both cases, and letters that only differ by case.
 const LITERALS: [&str; 4] = ["abAB", "abcéß漢😀AZ", "aaabbb", "x(y)é\n "];
 const RULES: [i32; 6] = [1, 2, 3, 7, 9, 65_535];
 
-/// A random case that passes tests 4 and 5.
+/// A random case that passes tests 4 and 5, from its last line.
 pub fn case(rng: &mut Rng, most_lines: usize) -> Case {
+    let (nodes, literals) = sheet(rng, most_lines);
+    let last = nodes.len() as u32;
+    from_root(rng, &nodes, literals, last)
+}
+
+/// The same from any root, and at times from none.
+pub fn rooted_case(rng: &mut Rng, most_lines: usize) -> Case {
+    let (nodes, literals) = sheet(rng, most_lines);
+    let root = roots::draw(rng, nodes.len());
+    from_root(rng, &nodes, literals, root)
+}
+
+/// A sheet with its literal text.
+fn sheet(rng: &mut Rng, most_lines: usize) -> (Vec<[i32; 4]>, &'static str) {
     let literals = rng.pick(&LITERALS);
     let mut nodes = match rng.below(6) {
         0 | 1 => lines(rng, literals, most_lines),
@@ -23,8 +37,14 @@ pub fn case(rng: &mut Rng, most_lines: usize) -> Case {
     if !keep_some {
         quieten(&mut nodes);
     }
-    let text = sample::text(rng, &nodes, literals);
-    let mut case = Case::new(&nodes, literals, &text);
+    (nodes, literals)
+}
+
+/// Its text is one that the root is likely to match.
+fn from_root(rng: &mut Rng, nodes: &[[i32; 4]], literals: &str, root: u32) -> Case {
+    let line = if roots::is_line(root, nodes.len()) { root as usize } else { nodes.len() };
+    let text = sample::text(rng, nodes, literals, line);
+    let mut case = Case { root, ..Case::new(nodes, literals, &text) };
     limit(rng, &mut case);
     case
 }
@@ -49,7 +69,7 @@ fn limit(rng: &mut Rng, case: &mut Case) {
 }
 
 /// Repeats whose body may stand still become optionals, from the first on, until none is left.
-fn quieten(nodes: &mut [[i32; 4]]) {
+pub fn quieten(nodes: &mut [[i32; 4]]) {
     loop {
         let read: Vec<Node> = nodes.iter().map(|node| Node::new(node)).collect();
         let still = oracle::may_stand_still(&read);
@@ -77,8 +97,17 @@ fn lines(rng: &mut Rng, literals: &str, most: usize) -> Vec<[i32; 4]> {
         };
         nodes.push(node);
     }
-    call_rules(rng, &mut nodes);
+    call_rules(rng, &mut nodes, |_| true);
     nodes
+}
+
+/// Any line of that number: its calls have yet to be given a rule.
+pub fn any_line(rng: &mut Rng, literals: &str, line: usize) -> [i32; 4] {
+    if line == 1 || rng.once_in(3) {
+        return leaf(rng, literals);
+    }
+    let (a, b) = (recent(rng, line), recent(rng, line));
+    combinator(rng, a, b)
 }
 
 /// A line below `line`, most often a near one.
@@ -87,11 +116,13 @@ fn recent(rng: &mut Rng, line: usize) -> i32 {
     (line - rng.within(1, reach)) as i32
 }
 
-/// Turns some leaves into calls of whatever rules there are; other calls become `skip(1)`.
-fn call_rules(rng: &mut Rng, nodes: &mut [[i32; 4]]) {
+/// Turns the calls at those lines into calls of whatever rules there are; without any they become
+/// `skip(1)`.
+pub fn call_rules(rng: &mut Rng, nodes: &mut [[i32; 4]], at: impl Fn(usize) -> bool) {
     let rules: Vec<i32> =
         (1..=nodes.len()).filter(|line| nodes[line - 1][0] == 8).map(|line| line as i32).collect();
-    for node in nodes.iter_mut().filter(|node| node[0] == 20) {
+    let lines = nodes.iter_mut().zip(1..);
+    for (node, _) in lines.filter(|(node, line)| node[0] == 20 && at(*line)) {
         *node = match rules.is_empty() {
             true => [4, 1, 0, 0],
             false => [20, rng.pick(&rules), 0, 0],
@@ -123,7 +154,7 @@ fn grammar(rng: &mut Rng, literals: &str, most: usize, plain: bool) -> Vec<[i32;
         }
         _ => {}
     }
-    call_rules(rng, &mut nodes);
+    call_rules(rng, &mut nodes, |_| true);
     nodes
 }
 

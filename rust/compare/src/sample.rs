@@ -6,10 +6,10 @@ use crate::rng::Rng;
 const LONGEST: usize = 40;
 const DEEPEST: usize = 24;
 
-/// Mostly a sample as it is, at times changed or followed by something.
-pub fn text(rng: &mut Rng, nodes: &[[i32; 4]], literals: &str) -> String {
+/// Mostly a sample from that line as it is, at times changed or followed by something.
+pub fn text(rng: &mut Rng, nodes: &[[i32; 4]], literals: &str, line: usize) -> String {
     let mut sampler = Sampler { nodes, literals, out: String::new(), stack: Vec::new() };
-    sampler.line(rng, nodes.len(), 0);
+    sampler.line(rng, line, 0);
     let mut text = sampler.out;
     truncate(&mut text, LONGEST);
     match rng.below(8) {

@@ -16,11 +16,11 @@ pub fn is_plain(nodes: &[Node]) -> bool {
     })
 }
 
-/// The position behind the prefix that the last line consumes, or `None` if it fails. Does not
+/// The position behind the prefix that the root line consumes, or `None` if it fails. Does not
 /// end where Ford's relation gives neither.
-pub fn consume(nodes: &[Node], literals: &[u8], text: &[u8]) -> Option<usize> {
+pub fn consume(nodes: &[Node], literals: &[u8], text: &[u8], root: u32) -> Option<usize> {
     let grammar = Grammar { nodes, literals: characters(literals), text: characters(text) };
-    let end = grammar.expression(nodes.len(), 0)?;
+    let end = grammar.expression(root as usize, 0)?;
     Some(grammar.text.get(end).map_or(text.len(), |(at, _)| *at))
 }
 

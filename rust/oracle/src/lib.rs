@@ -1,5 +1,5 @@
-//! Document 01's `run`, written from the document with lists and forests, not from pest's text:
-//! a second opinion. Plain before fast.
+//! Document 01's `run`, from the root line of document 02, written from the documents with lists and
+//! forests, not from pest's text: a second opinion. Plain before fast.
 
 pub mod ford;
 mod forest;
@@ -30,6 +30,8 @@ pub struct Input<'a> {
     pub nodes: &'a [i32],
     pub literals: &'a [u8],
     pub text: &'a [u8],
+    /// The line that the reading starts at, from 1.
+    pub root: u32,
     pub depth_limit: u32,
     pub call_limit: u32,
 }
@@ -48,6 +50,11 @@ impl Outcome {
     /// With no call entered, as in a refused run.
     fn new(number: u32, place: usize, count: usize) -> Outcome {
         Outcome { number, place: place as u32, count: count as u32, calls: 0 }
+    }
+
+    /// Is it that of a run that was never started?
+    pub fn is_refusal(self) -> bool {
+        matches!(self.number, 4..=9 | 18)
     }
 }
 
@@ -75,7 +82,7 @@ pub fn run_within(
     Some(Outcome { calls: reading.last.calls, ..lay_out(&reading, tokens, report) })
 }
 
-/// Tests 4 to 9, in order.
+/// Tests 4, 5, 6, 18, 7, 8 and 9, in that order.
 pub fn refusal(input: Input<'_>, report: usize, scratch: usize) -> Option<Outcome> {
     if input.literals.len() > LONGEST_TEXT || !is_utf8(input.literals) {
         return Some(Outcome::new(4, 0, 0));
@@ -91,6 +98,9 @@ pub fn refusal(input: Input<'_>, report: usize, scratch: usize) -> Option<Outcom
     if let Some(line) = still::first_still_repeat(&nodes) {
         return Some(Outcome::new(6, line, 0));
     }
+    if !is_line(input.root, &nodes) {
+        return Some(Outcome::new(18, 0, 0));
+    }
     if input.text.len() > LONGEST_TEXT || !is_utf8(input.text) {
         return Some(Outcome::new(7, 0, 0));
     }
@@ -101,6 +111,10 @@ pub fn refusal(input: Input<'_>, report: usize, scratch: usize) -> Option<Outcom
         return Some(Outcome::new(9, 0, 0));
     }
     None
+}
+
+fn is_line(number: u32, nodes: &[Node]) -> bool {
+    1 <= number && number as usize <= nodes.len()
 }
 
 pub fn nodes_of(input: Input<'_>) -> Vec<Node> {

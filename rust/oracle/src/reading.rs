@@ -123,7 +123,7 @@ pub struct Final {
     pub calls: u64,
 }
 
-/// Reads the text by the last line. The sheet has passed its tests.
+/// Reads the text from the root line. The sheet and its root have passed their tests.
 pub fn read(nodes: &[Node], input: Input<'_>, capacities: Capacities, steps: u64) -> Reading {
     let mut reader = Reader {
         nodes,
@@ -146,7 +146,7 @@ pub fn read(nodes: &[Node], input: Input<'_>, capacities: Capacities, steps: u64
         negatives: Vec::new(),
         furthest: 0,
     };
-    let ending = reader.evaluate(nodes.len());
+    let ending = reader.evaluate(input.root as usize);
     Reading {
         ending,
         forest: reader.siblings,

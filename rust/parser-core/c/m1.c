@@ -1,6 +1,6 @@
-/* Document 01's M1 and M2 from C: reads the sheet, runs it on `a` and on `b`, and prints planread's
- * listing of each run and, behind it, its counted calls. Ends with status 1 where the sheet is
- * refused. */
+/* Document 01's M1 and M2 from C: reads the sheet, runs it from its last line, 4, on `a` and on `b`, and
+ * prints planread's listing of each run and, behind it, its counted calls. Ends with status 1 where the
+ * sheet is refused. */
 #include <inttypes.h>
 #include <parser_core.h>
 #include <stdio.h>
@@ -30,7 +30,7 @@ static void print_rules(uint32_t count) {
 
 static void list(const char *text) {
     parser_core_run_outcome o = parser_core_run(
-        nodes, 16, (const uint8_t *)"abc", 3, (const uint8_t *)text, strlen(text),
+        nodes, 16, (const uint8_t *)"abc", 3, (const uint8_t *)text, strlen(text), 4,
         PARSER_CORE_DEEPEST, 0, tokens, 20, report, PARSER_CORE_REPORT, scratch, PARSER_CORE_SCRATCH);
     printf("%6u%6u%6u\n", o.number, o.place, o.count);
     if (o.number == 0) {

@@ -18,7 +18,7 @@ static int32_t line(int32_t kind, int32_t a, int32_t b) {
     return ++lines;
 }
 
-/* The rule's line is the last one, which is known before it is written. */
+/* The rule's line is the last one, which is known before it is written, and the root. */
 static void write_grammar(int32_t nests, int32_t kind) {
     int32_t nothing = line(1, 0, 0);
     int32_t body = line(20, 2 + 2 * nests + (kind != 0) + 1, 0);
@@ -37,7 +37,7 @@ int main(int argc, char **argv) {
     }
     write_grammar(atoi(argv[2]), atoi(argv[3]));
     parser_core_run_outcome o = parser_core_run(
-        nodes, 4 * (size_t)lines, NULL, 0, NULL, 0, (uint32_t)atoi(argv[1]), 0,
+        nodes, 4 * (size_t)lines, NULL, 0, NULL, 0, (uint32_t)lines, (uint32_t)atoi(argv[1]), 0,
         tokens, 10 * PARSER_CORE_DEEPEST, report, PARSER_CORE_REPORT, scratch, PARSER_CORE_SCRATCH);
     printf("%6u%6u%6u\n", o.number, o.place, o.count);
     return 0;

@@ -1,7 +1,7 @@
 /* The proved parser core for C. Link libparser_core.a (bash tools/staticlib.sh).
  *
- * Number, place, count and what stands in the areas are document 01's, for all input; the counted
- * calls are document 02's. A pointer names as many items as the length behind it says; the areas that
+ * Number, place, count and what stands in the areas are document 01's, for all input; the root and the
+ * counted calls are document 02's. A pointer names as many items as the length behind it says; the areas that
  * are written (tokens, report, scratch, and the nodes of a reading) overlap nothing else that is
  * passed. */
 #ifndef PARSER_CORE_H
@@ -44,14 +44,18 @@ typedef struct {
     uint64_t calls;
 } parser_core_run_outcome;
 
-/* Runs the grammar of `nodes`, four numbers a line, on `text`. A token takes five numbers; `tokens`
- * needs room for the most that are held at once, which can be more than the count returned (14 else).
- * It recurses: a level of depth takes less than 500 bytes of stack, and as many again for each nest
- * of kinds 6 and 7 (README.md, "Native stack"). */
+/* Runs the grammar of `nodes`, four numbers a line, on `text`, from line `root`: lines are numbered from
+ * 1, and a line of any kind may be the root (18 where it is no line of the sheet). What stands in lines
+ * that the root does not reach, by naming or calling, changes nothing where the sheet is accepted.
+ *
+ * A token takes five numbers; `tokens` needs room for the most that are held at once, which can be more
+ * than the count returned (14 else). It recurses: a level of depth takes less than 500 bytes of stack,
+ * and as many again for each nest of kinds 6 and 7 (README.md, "Native stack"). */
 parser_core_run_outcome parser_core_run(
     const int32_t *nodes, size_t nodes_len,
     const uint8_t *literals, size_t literals_len,
     const uint8_t *text, size_t text_len,
+    uint32_t root,
     uint32_t depth_limit, uint32_t call_limit,
     uint32_t *tokens, size_t tokens_len,
     uint32_t *report, size_t report_len,

@@ -1,10 +1,11 @@
 //! The proved parser core: document 01's `run` and `read_sheet`, on slices.
 //!
-//! Both are Rattle functions with no `requires`: whatever the slices and limits, number, place,
-//! count and what stands in the areas are those of document 01, and the counted calls those of
-//! document 02. Nothing is checked on this side.
+//! Both are Rattle functions with no `requires`: whatever the slices, root and limits, number, place,
+//! count and what stands in the areas are those of document 01, and the root and the counted calls
+//! those of document 02. Nothing is checked on this side.
 //!
-//! Document 01's M1: rule 7 over `a`, then tag 3, on the text `a`. The rule is its one counted call.
+//! Document 01's M1: rule 7 over `a`, then tag 3, on the text `a`, from its last line, 4. The rule is
+//! its one counted call.
 //!
 //! ```
 //! use parser_core::{run, RunOutcome, DEEPEST, REPORT, SCRATCH};
@@ -12,7 +13,7 @@
 //! let nodes = [1, 0, 1, 0, 8, 7, 1, 0, 19, 3, 0, 0, 6, 2, 3, 0];
 //! let (mut tokens, mut report, mut scratch) = ([9; 15], [9; REPORT], [9; SCRATCH]);
 //! let outcome =
-//!     run(&nodes, b"abc", b"a", DEEPEST, 0, &mut tokens, &mut report, &mut scratch);
+//!     run(&nodes, b"abc", b"a", 4, DEEPEST, 0, &mut tokens, &mut report, &mut scratch);
 //!
 //! assert_eq!(outcome, RunOutcome { number: 0, place: 0, count: 2, calls: 1 });
 //! assert_eq!(tokens, [1, 1, 0, 0, 0, 2, 0, 1, 7, 3, 0, 0, 0, 0, 0]);
@@ -60,6 +61,7 @@ extern "C" {
         literals_len: usize,
         text: *const u8,
         text_len: usize,
+        root: u32,
         depth_limit: u32,
         call_limit: u32,
         tokens: *mut u32,
@@ -78,7 +80,11 @@ extern "C" {
     ) -> Outcome;
 }
 
-/// Runs the grammar of `nodes`, four numbers a line, on `text`.
+/// Runs the grammar of `nodes`, four numbers a line, on `text`, from line `root`.
+///
+/// Lines are numbered from 1, and a line of any kind may be the root: 18 where it is no line of the
+/// sheet. What stands in lines that the root does not reach, by naming or calling, changes nothing
+/// where the sheet is accepted.
 ///
 /// A token takes five numbers of `tokens`. It needs room for the most tokens that are held at once,
 /// which can be more than the count that is returned: 14 else.
@@ -92,6 +98,7 @@ pub fn run(
     nodes: &[i32],
     literals: &[u8],
     text: &[u8],
+    root: u32,
     depth_limit: u32,
     call_limit: u32,
     tokens: &mut [u32],
@@ -108,6 +115,7 @@ pub fn run(
             literals.len(),
             text.as_ptr(),
             text.len(),
+            root,
             depth_limit,
             call_limit,
             tokens.as_mut_ptr(),

@@ -25,6 +25,7 @@ fn ran(number: u32, place: u32, count: u32, calls: u64) -> RunOutcome {
 /// What was returned, and tokens, report and scratch afterwards.
 type Answer = (RunOutcome, [Vec<u32>; 3]);
 
+/// From the last line.
 fn answer(
     nodes: &[i32],
     literals: &[u8],
@@ -32,10 +33,21 @@ fn answer(
     depth_limit: u32,
     lengths: Lengths,
 ) -> Answer {
+    rooted(nodes, literals, text, nodes.len() as u32 / 4, depth_limit, lengths)
+}
+
+fn rooted(
+    nodes: &[i32],
+    literals: &[u8],
+    text: &[u8],
+    root: u32,
+    depth_limit: u32,
+    lengths: Lengths,
+) -> Answer {
     let [mut tokens, mut report, mut scratch] =
         [lengths.tokens, lengths.report, lengths.scratch].map(|length| vec![FILL; length]);
-    let outcome =
-        run(nodes, literals, text, depth_limit, 0, &mut tokens, &mut report, &mut scratch);
+    let [t, r, s] = [&mut tokens, &mut report, &mut scratch];
+    let outcome = run(nodes, literals, text, root, depth_limit, 0, t, r, s);
     (outcome, [tokens, report, scratch])
 }
 
@@ -74,6 +86,47 @@ fn refusals_leave_the_areas() {
     refused(of(9, 0, 0), answer(&M1, b"abc", b"a", DEEPEST, scratch));
 }
 
+/// 18, behind 4 to 6 and before 7 to 9.
+#[test]
+fn a_root_that_is_no_line_is_refused() {
+    for root in [0, 5, 16, 0x1_0004, u32::MAX] {
+        refused(of(18, 0, 0), rooted(&M1, b"abc", b"a", root, DEEPEST, ENOUGH));
+        refused(of(4, 0, 0), rooted(&M1, b"\xff", b"a", root, DEEPEST, ENOUGH));
+        refused(of(5, 1, 0), rooted(&[0; 16], b"abc", b"a", root, DEEPEST, ENOUGH));
+        refused(of(18, 0, 0), rooted(&M1, b"abc", b"\xff", root, DEEPEST, ENOUGH));
+        let short = Lengths { scratch: 0, report: 0, ..ENOUGH };
+        refused(of(18, 0, 0), rooted(&M1, b"abc", b"a", root, 0, short));
+    }
+    refused(of(6, 2, 0), rooted(&[5, 0, 0, 0, 10, 1, 0, 0], b"", b"a", 0, DEEPEST, ENOUGH));
+}
+
+/// A letter is rule 1, a digit rule 2. Line 3 repeats letters, line 6 takes a letter or a digit.
+#[test]
+fn two_roots_of_one_sheet() {
+    let letters = [3, 97, 122, 0, 8, 1, 1, 0, 10, 2, 0, 0];
+    let either = [3, 48, 57, 0, 8, 2, 4, 0, 7, 2, 5, 0];
+    let sheet = [letters, either].concat();
+    let from = |sheet: &[i32], root: u32, text: &[u8]| {
+        let lengths = Lengths { tokens: 15, ..ENOUGH };
+        let (outcome, [tokens, report, _]) = rooted(sheet, b"", text, root, DEEPEST, lengths);
+        assert_eq!(report, [0; REPORT + 1]);
+        (outcome, tokens)
+    };
+    let pair = |rule: u32| vec![1, 1, 0, 0, 0, 2, 0, 1, rule, 0, 0, 0, 0, 0, 0];
+    assert_eq!(from(&sheet, 3, b"a1"), (ran(0, 0, 2, 3), pair(1)));
+    assert_eq!(from(&sheet, 3, b"1"), (ran(0, 0, 0, 2), vec![0; 15]));
+    assert_eq!(from(&sheet, 6, b"a1"), (ran(0, 0, 2, 1), pair(1)));
+    assert_eq!(from(&sheet, 6, b"1"), (ran(0, 0, 2, 2), pair(2)));
+
+    // Line 3 reaches none of these lines, line 6 all but the last.
+    let others = [3, 48, 57, 0, 8, 9, 4, 0, 7, 2, 5, 0, 5, 0, 0, 0];
+    let changed = [&letters[..], &others].concat();
+    for text in [b"a1", b"1a"] {
+        assert_eq!(from(&changed, 3, text), from(&sheet, 3, text));
+    }
+    assert_eq!(from(&changed, 6, b"1"), (ran(0, 0, 2, 2), pair(9)));
+}
+
 #[test]
 fn no_room_for_a_token_is_14() {
     let tokens = Lengths { tokens: 9, ..ENOUGH };
@@ -101,7 +154,7 @@ fn calls_are_counted_with_and_without_a_limit() {
     let limited = |depth_limit: u32, call_limit: u32| {
         let (mut tokens, mut report, mut scratch) = ([0; 0], [0; REPORT], [0; SCRATCH]);
         let [t, r, s] = [&mut tokens[..], &mut report, &mut scratch];
-        run(&nodes, b"a", b"aaa", depth_limit, call_limit, t, r, s)
+        run(&nodes, b"a", b"aaa", 3, depth_limit, call_limit, t, r, s)
     };
     for call_limit in [0, 5, 6, u32::MAX] {
         assert_eq!(limited(2, call_limit), ran(0, 0, 0, 5));

@@ -34,11 +34,12 @@ pub(crate) fn tracked(state: Shown<'_>) -> Option<u64> {
 pub fn counted_state(
     sheet: &Sheet<'_>,
     text: &str,
+    root: u32,
     depth_limit: u32,
     call_limit: u32,
 ) -> (Ending, Calls) {
     let count = Count { driven: Cell::new(0), limited: call_limit != 0, tracked: Cell::new(None) };
-    let ending = watched_state(sheet, text, depth_limit, call_limit, &count);
+    let ending = watched_state(sheet, text, root, depth_limit, call_limit, &count);
     (ending, Calls { driven: count.driven.get(), tracked: count.tracked.get() })
 }
 

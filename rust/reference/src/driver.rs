@@ -37,8 +37,8 @@ pub(crate) struct Driver<'s, 'l, W> {
 }
 
 impl<W: Watch> Driver<'_, '_, W> {
-    pub fn root<'i>(&self, state: State<'i>) -> ParseResult<State<'i>> {
-        let result = self.node(self.sheet.root(), state);
+    pub fn root<'i>(&self, number: LineNumber, state: State<'i>) -> ParseResult<State<'i>> {
+        let result = self.node(number, state);
         self.watch.ended(result.is_ok(), state_of(&result));
         result
     }

@@ -1,8 +1,10 @@
-//! pest's combinators, driven from document 01's node lines, from `pest::state`.
+//! pest's combinators, driven from document 01's node lines, from `pest::state`. The line that a run
+//! starts at, its root, is one of its arguments, as document 02 has it.
 //!
 //! Everything that a run answers is pest's: the queue is what `Pairs` holds, the rules and the
 //! limit's message are the `ErrorVariant`'s, the furthest position is the `Error`'s location,
-//! which `state` makes of `attempt_pos`. Only accepted sheets and UTF-8 texts may be given.
+//! which `state` makes of `attempt_pos`. Only accepted sheets, roots that are lines of theirs, and UTF-8
+//! texts may be given.
 
 pub mod count;
 mod driver;
@@ -45,11 +47,12 @@ pub enum Ending {
 pub fn watched_state<W: Watch>(
     sheet: &Sheet<'_>,
     text: &str,
+    root: u32,
     depth_limit: u32,
     call_limit: u32,
     watch: &W,
 ) -> Ending {
-    match pest_state(sheet, text, depth_limit, call_limit, watch) {
+    match pest_state(sheet, text, root, depth_limit, call_limit, watch) {
         Ok(pairs) => Ending::Parsed { tokens: pairs.tokens().queue().iter().map(token).collect() },
         Err(error) => failed(error),
     }
@@ -59,16 +62,18 @@ pub fn watched_state<W: Watch>(
 pub fn queue_length(
     sheet: &Sheet<'_>,
     text: &str,
+    root: u32,
     depth_limit: u32,
     call_limit: u32,
 ) -> Option<usize> {
-    let pairs = pest_state(sheet, text, depth_limit, call_limit, &Unwatched).ok()?;
+    let pairs = pest_state(sheet, text, root, depth_limit, call_limit, &Unwatched).ok()?;
     Some(pairs.tokens().queue().len())
 }
 
 fn pest_state<'i, W: Watch>(
     sheet: &Sheet<'_>,
     text: &'i str,
+    root: u32,
     depth_limit: u32,
     call_limit: u32,
     watch: &W,
@@ -76,7 +81,7 @@ fn pest_state<'i, W: Watch>(
     let _alone = set_call_limit(call_limit);
     pest_stack_guard::set_depth_limit(depth_limit);
     let driver = Driver { sheet, watch };
-    pest::state(text, |state| driver.root(state))
+    pest::state(text, |state| driver.root(root as usize, state))
 }
 
 /// pest's call limit holds for the whole process, and a `ParserState` takes it when it is made:

@@ -54,10 +54,6 @@ impl<'l> Sheet<'l> {
         Sheet { lines }
     }
 
-    pub(crate) fn root(&self) -> LineNumber {
-        self.lines.len()
-    }
-
     #[inline]
     pub(crate) fn line(&self, number: LineNumber) -> Line<'l> {
         self.lines[number - 1]

@@ -50,12 +50,13 @@ pub struct Final {
 pub fn state_within(
     sheet: &Sheet<'_>,
     text: &str,
+    root: u32,
     depth_limit: u32,
     call_limit: u32,
     capacities: Capacities,
 ) -> Result<(Ending, Final), Stop> {
     let watch = Within { capacities, calls: Cell::new(0), last: RefCell::new(None) };
-    let run = || watched_state(sheet, text, depth_limit, call_limit, &watch);
+    let run = || watched_state(sheet, text, root, depth_limit, call_limit, &watch);
     match catch_unwind(AssertUnwindSafe(run)) {
         Ok(ending) => Ok((ending, watch.last.into_inner().expect("the root was left"))),
         Err(cause) => match cause.downcast::<Stop>() {

@@ -14,9 +14,9 @@ use std::process::ExitCode;
 use compare::answers::{Record, LONGEST_FILE};
 use compare::case::{Areas, Case, FILL};
 use compare::contender::contenders;
-use compare::judge::{laid_out, pest, Judge};
+use compare::judge::{laid_out, pest, Judge, NUMBERS};
 use compare::rng::Rng;
-use compare::{boundary, damage, exhaustive, probe, random, stack, tight};
+use compare::{boundary, damage, exhaustive, probe, random, roots, stack, tight};
 
 const LONGEST_TEXT: usize = 40;
 const MOST_LINES: usize = 22;
@@ -92,6 +92,7 @@ fn make(seed: u64, out: &Path) {
     // Last, so that the answers before them keep their running numbers.
     list.judge.steps = 200_000_000;
     counted.for_each(|case| list.take(case));
+    roots::cases().into_iter().for_each(|(case, _)| list.take(case));
     fs::create_dir_all(out).expect("the folder");
     write_files(out, &list.records);
     println!("seed {seed}: {} answers", list.records.len());
@@ -300,7 +301,8 @@ fn draw(rng: &mut Rng, number: u32) -> Option<Case> {
         _ => probe::case(rng),
     };
     match number {
-        4..=9 => case = damage::damage(rng, case),
+        // A damaged sheet may end elsewhere.
+        4..=9 => case = damage::damage(rng, case).from_last_line(),
         15 => case = full_stack(rng),
         13 => {}
         _ if rng.once_in(3) => tight::tighten(rng, &mut case),
@@ -387,7 +389,7 @@ fn files(folder: &Path) -> Vec<PathBuf> {
 }
 
 fn replay(folder: &Path) -> ExitCode {
-    let mut numbers = [0; 17];
+    let mut numbers = [0; NUMBERS];
     let mut kinds = [0; 21];
     let mut wrong = 0;
     for path in files(folder) {
@@ -404,7 +406,7 @@ fn replay(folder: &Path) -> ExitCode {
             }
         }
     }
-    println!("answers of each number, 0 to 16: {numbers:?}");
+    println!("answers of each number, 0 to {}: {numbers:?}", NUMBERS - 1);
     println!("answers that hold each kind, 1 to 20: {:?}", &kinds[1..]);
     println!("{} passed, {wrong} failed", numbers.iter().sum::<u32>() - wrong);
     match wrong {

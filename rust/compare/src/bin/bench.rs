@@ -47,7 +47,8 @@ fn time(example: &Example, bytes: usize, runs: usize) {
     let grammar = &example.grammar;
     let mut case = Case::new(&grammar.nodes, &grammar.literals, &text);
     let sheet = Sheet::new(&case.nodes, &grammar.literals);
-    let tokens = reference::queue_length(&sheet, &text, case.depth_limit, 0)
+    let Case { root, depth_limit, .. } = case;
+    let tokens = reference::queue_length(&sheet, &text, root, depth_limit, 0)
         .unwrap_or_else(|| panic!("{} does not match its text", example.name));
     // Room for twice the tokens: a run writes its area to the end.
     case.tokens = 5 * oracle::MOST_TOKENS.min(2 * tokens);
@@ -63,11 +64,11 @@ fn time(example: &Example, bytes: usize, runs: usize) {
     }
     let mut times = vec![Vec::with_capacity(runs); 1 + others.len()];
     warm_up(|| {
-        black_box(reference::queue_length(&sheet, &text, case.depth_limit, 0));
+        black_box(reference::queue_length(&sheet, &text, root, depth_limit, 0));
     });
     for _ in 0..runs {
         times[0].push(nanoseconds(|| {
-            black_box(reference::queue_length(&sheet, black_box(&text), case.depth_limit, 0));
+            black_box(reference::queue_length(&sheet, black_box(&text), root, depth_limit, 0));
         }));
         for (other, times) in others.iter_mut().zip(&mut times[1..]) {
             times.push(nanoseconds(|| {

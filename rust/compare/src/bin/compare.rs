@@ -1,18 +1,20 @@
 //! Compares pest with the oracle, and both with every contender that is linked in.
 //!
 //! compare [--seed N] [--random N] [--damaged N] [--lines N] [--letters N] [--length N]
-//!         [--settings N] [--watch N]
+//!         [--settings N] [--watch N] [--pairs N]
 //!
-//! Ends with status 1 at the first difference, after printing it minimised.
+//! Ends with status 1 at the first difference, after printing it: a case minimised, a pair as it is.
 
 use std::process::ExitCode;
 use std::time::Instant;
 
 use compare::case::Case;
 use compare::contender::contenders;
+use compare::exhaustive::{Setting, SETTINGS};
 use compare::judge::{Difference, Judge, Tally};
+use compare::pairs::{Differing, Pair};
 use compare::rng::Rng;
-use compare::{boundary, damage, exhaustive, minimise, probe, random, stack, tight};
+use compare::{boundary, damage, exhaustive, minimise, probe, random, roots, stack, tight};
 
 struct Options {
     seed: u64,
@@ -25,6 +27,8 @@ struct Options {
     settings: usize,
     /// One case in so many is also watched within small capacities; 0 means none.
     watch: usize,
+    /// Pairs of sheets that agree on what their root reaches.
+    pairs: u64,
 }
 
 impl Options {
@@ -36,8 +40,9 @@ impl Options {
             lines: 3,
             letters: 3,
             length: 3,
-            settings: exhaustive::SETTINGS.len(),
+            settings: SETTINGS.len(),
             watch: 16,
+            pairs: 400_000,
         };
         let mut arguments = std::env::args().skip(1);
         while let Some(name) = arguments.next() {
@@ -54,6 +59,7 @@ impl Options {
                 "--length" => options.length = value as usize,
                 "--settings" => options.settings = value as usize,
                 "--watch" => options.watch = value as usize,
+                "--pairs" => options.pairs = value,
                 other => panic!("no such option: {other}"),
             }
         }
@@ -91,6 +97,7 @@ fn compare_all(options: &Options) -> Result<Tally, ()> {
     }
     stage("random", &mut |judge| random_cases(judge, options))?;
     stage("damaged", &mut |judge| damaged_cases(judge, options))?;
+    stage("pairs", &mut |judge| pairs(judge, options))?;
     Ok(total)
 }
 
@@ -110,17 +117,19 @@ fn boundary_cases(judge: &mut Judge) -> Result<(), ()> {
 }
 
 fn exhaustive_cases(judge: &mut Judge, options: &Options, lines: usize) -> Result<(), ()> {
-    let texts = exhaustive::texts(options.letters, options.length);
+    let inputs = inputs(options);
     let mut rng = Rng::new(options.seed);
     exhaustive::sheets(lines as i32, &mut |nodes| {
-        for text in &texts {
-            for setting in exhaustive::SETTINGS.into_iter().take(options.settings) {
-                let case = exhaustive::case(nodes, text, setting);
+        // From each line, and from none: 0, and one past the sheet.
+        for root in 0..=lines as u32 + 1 {
+            for (text, setting) in &inputs {
+                let case = Case { root, ..exhaustive::case(nodes, text, *setting) };
                 let small = small(&mut rng, options.watch);
-                let outcome = check(judge, &case, small)?;
-                // Refused for the sheet: on every text and setting alike.
-                if outcome == 5 || outcome == 6 {
-                    return Ok(());
+                match check(judge, &case, small)? {
+                    // Refused for the sheet or for its root: on every text and setting alike.
+                    5 | 6 => return Ok(()),
+                    18 => break,
+                    _ => {}
                 }
             }
         }
@@ -128,13 +137,23 @@ fn exhaustive_cases(judge: &mut Judge, options: &Options, lines: usize) -> Resul
     })
 }
 
+/// Each text under each setting.
+fn inputs(options: &Options) -> Vec<(String, Setting)> {
+    let mut all = Vec::new();
+    for text in exhaustive::texts(options.letters, options.length) {
+        let settings = SETTINGS.into_iter().take(options.settings);
+        all.extend(settings.map(|setting| (text.clone(), setting)));
+    }
+    all
+}
+
 fn random_cases(judge: &mut Judge, options: &Options) -> Result<(), ()> {
     let mut rng = Rng::new(options.seed);
     for at in 0..options.random {
         let mut case = match at % 8 {
-            0 => random::case(&mut rng, 48),
-            1 | 2 => probe::case(&mut rng),
-            _ => random::case(&mut rng, 24),
+            0 => random::rooted_case(&mut rng, 48),
+            1 | 2 => roots::rooted(&mut rng, probe::case),
+            _ => random::rooted_case(&mut rng, 24),
         };
         if rng.once_in(8) {
             tight::tighten(&mut rng, &mut case);
@@ -148,11 +167,30 @@ fn random_cases(judge: &mut Judge, options: &Options) -> Result<(), ()> {
 fn damaged_cases(judge: &mut Judge, options: &Options) -> Result<(), ()> {
     let mut rng = Rng::new(options.seed ^ 0xDA);
     for _ in 0..options.damaged {
-        let case = random::case(&mut rng, 16);
+        let case = random::rooted_case(&mut rng, 16);
         let case = damage::damage(&mut rng, case);
         let small = small(&mut rng, options.watch);
         check(judge, &case, small)?;
     }
+    Ok(())
+}
+
+/// Both cases of each pair, and what request 4 promises of them.
+fn pairs(judge: &mut Judge, options: &Options) -> Result<(), ()> {
+    let mut rng = Rng::new(options.seed ^ 0x4);
+    let mut differing = Differing::default();
+    for _ in 0..options.pairs {
+        let pair = Pair::draw(&mut rng);
+        match judge.judge_pair(&pair) {
+            Ok(Some(_)) => differing.add(&pair),
+            Ok(None) => {}
+            Err(difference) => {
+                println!("DIFFERENCE {difference}\non\n{}\nand\n{}", pair.one, pair.other);
+                return Err(());
+            }
+        }
+    }
+    println!("{differing}");
     Ok(())
 }
 
