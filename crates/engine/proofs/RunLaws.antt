@@ -104,8 +104,8 @@ module _ (i : Input) (e : refusal i ≡ None) where
     deep = omega (arith, s.depth_high);
   })
 
-  pub at_root : Line i.nodes i.root
-  at_root = record { low = s.root_line.0; high = s.root_line.1 }
+  pub line_of_root : Line i.nodes i.root
+  line_of_root = record { low = s.root_line.0; high = s.root_line.1 }
 
   -- The evaluation from the first state.
   abbrev pub ran : Ending ParserState

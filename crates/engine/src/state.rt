@@ -60,7 +60,8 @@ fn started<'a>(
     report: &mut [u32],
     scratch: &mut [u32],
 ) -> RunOutcome
-    requires { refusal (input nodes.now literals.now text.now root depth_limit call_limit tokens.old report.old (length scratch.old)) ≡ None }
+    requires { refusal (input nodes.now literals.now text.now root depth_limit call_limit tokens.old report.old (length scratch.old))
+        ≡ None }
     ensures { Ran (input nodes.now literals.now text.now root depth_limit call_limit tokens.old report.old (length scratch.old))
         (run_outcome_of result tokens.new report.new) scratch.old scratch.new }
 {

@@ -17,8 +17,9 @@ pub record SheetRefused (number place : ℕ) (before after : List ℤ) (g : Give
   pub report : b.report ≡ g.report
   pub scratch : b.scratch ≡ g.scratch
 
--- A sheet that was read to these nodes, "and writes just their nodes". Demand 1 of the run over them, whose root is the last line: refused by
--- 4 to 9, with tokens, report and scratch as they were, or "accepted and run to an end" in 0 or 10 to 16.
+-- A sheet that was read to these nodes, "and writes just their nodes". Demand 1 of the run over them, whose root is the last line: refused
+-- by 4 to 9 (18 never comes: past 5 a sheet has a last line), with tokens, report and scratch as they were, or "accepted and run to an end"
+-- in 0 or 10 to 16.
 pub record SheetAccepted (ns before after : List ℤ) (g : Given) (b : Back) : Type 0 where
   pub nodes : after ≡ over ns before
   pub run : Run.Demand1 (handed ns g) (run_outcome_of b.answer b.tokens b.report) g.scratch b.scratch

@@ -4,8 +4,8 @@ ghost use Rattle.files.specs.SheetRun.{SheetRun};
 use engine::state::{RunOutcome, run};
 use sheet::sheet::read_sheet;
 
-// Document 01's tests and stops in order, 1 to 16; the run's root is the last line. A refused sheet leaves all areas, a refused run those of
-// the run; neither counts a call.
+// Document 01's tests and stops in order, 1 to 16; the run's root is the last line. A refused sheet leaves all areas, a refused run
+// those of the run; neither counts a call.
 // Kept: document 01 lends each area on its own and answers number, place and count, document 02 the counted calls beside them; so does C's
 // interface, which these follow.
 pub fn run_sheet<'a>(

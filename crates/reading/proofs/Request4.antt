@@ -2,7 +2,6 @@
 -- lines only; so that root's run is the same.
 use mathlib.Core.Path.{◌≡◌, refl, sym, ap, ap₂, ◌∙◌, subst}
 use mathlib.Core.Bool.{Bool, true, false, ◌&&◌}
-use mathlib.Core.List.Memᴰ
 use mathlib.Core.List.{List, [], ◌∷◌, Memᴰ}
 use Rattle.std.specs.Prelude.{Option, None, Some}
 use Prim.Native.Nat.{ℕ, ◌-◌, ◌≤◌, ◌<◌}
@@ -117,7 +116,7 @@ module _ (ns ms : List ℤ) (literals : List ℕ) (g : Accepted ns literals) (k 
         → eval (record { text = text; rule_at = rule_at ns literals; capacity = capacity }) depth (tree_at ns literals root) s
         ≡ eval (record { text = text; rule_at = rule_at ms literals; capacity = capacity }) depth (tree_at ms literals root) s
     root_same i text capacity depth s =
-        let t : Same (tree_at ns literals root) (tree_at ms literals root) = tree_same root i from_root in
+        let t : Same (tree_at ns literals root) (tree_at ms literals root) = tree_same root i (from_root i.0) in
         ap (λ (f : State → Ending State). f s)
         (eval_same text capacity (rule_at ns literals) (rule_at ms literals) Called rule_same (λ l c. (body_same l c).1) depth
         (tree_at ns literals root) t.1)
@@ -147,14 +146,19 @@ module _ (i j : Input) (c : SharedRoot i j) where
   there_accepted = rw c.literals (accepted j.nodes j.literals c.second.fitting c.second.moving)
 
   root_alike : within 1 (line_count i.nodes) i.root ≡ within 1 (line_count j.nodes) i.root
-  root_alike = either_way _ _
-      (λ q. is_line j.nodes
-      (line_of_both i.nodes j.nodes i.literals here_accepted there_accepted i.root same (within_true 1 (line_count i.nodes) i.root q)))
-      (λ q. is_line i.nodes
-      (line_of_both j.nodes i.nodes i.literals there_accepted here_accepted i.root (sym same) (within_true 1 (line_count j.nodes) i.root q)))
+  root_alike = either_way _ _ (λ q. is_line j.nodes (there (is_within i.nodes q))) (λ q. is_line i.nodes (back (is_within j.nodes q)))
     where
-      same : node_at i.nodes i.root ≡ node_at j.nodes i.root
-      same = c.agree i.root from_root
+      is_within : (ns : List ℤ) → within 1 (line_count ns) i.root ≡ true → In ns i.root
+      is_within ns q = within_true 1 (line_count ns) i.root q
+
+      same : 1 ≤ i.root → node_at i.nodes i.root ≡ node_at j.nodes i.root
+      same h = c.agree i.root (from_root h)
+
+      there : In i.nodes i.root → In j.nodes i.root
+      there l = line_of_both i.nodes j.nodes i.literals here_accepted there_accepted i.root (same l.0) l
+
+      back : In j.nodes i.root → In i.nodes i.root
+      back l = line_of_both j.nodes i.nodes i.literals there_accepted here_accepted i.root (sym (same l.0)) l
 
       is_line : (ns : List ℤ) → In ns i.root → within 1 (line_count ns) i.root ≡ true
       is_line ns l = within_is 1 (line_count ns) i.root l.0 l.1

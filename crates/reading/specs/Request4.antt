@@ -1,6 +1,6 @@
 -- Document 02, request 4, "Two crews, one sheet", in the customer's words, of what two runs gave.
 use mathlib.Core.List.{Memᴰ}
-use Rattle.std.specs.Prelude.{◌≡◌, true, List, [], ◌∷◌, ℕ, ℤ, length}
+use Rattle.std.specs.Prelude.{◌≡◌, true, List, [], ◌∷◌, ℕ, ◌≤◌, ℤ, length}
 use Rattle.std.specs.Prelude.{None}
 use Rattle.reading.specs.declared.node.Node.{Node}
 use Rattle.reading.specs.Grammar.{node_at, natural, row, misfit}
@@ -31,9 +31,9 @@ named_rows a b =
 abbrev pub named : Node → List ℕ
 named n = row (named_rows (natural n.a) (natural n.b)) [] n.kind
 
--- "every line reachable from a root": the least such set
+-- "every line reachable from a root": the least such set. 0 is no line, and reaches none.
 pub data Reachable (ns : List ℤ) (root : ℕ) : ℕ → Type 0 where
-  from_root : Reachable ns root root
+  from_root : 1 ≤ root → Reachable ns root root
   through : (l m : ℕ) → Reachable ns root l → Memᴰ m (named (node_at ns l)) → Reachable ns root m
 
 -- ── The two runs ──

@@ -1,7 +1,7 @@
 -- The evaluation of the root from the first state, and its end.
 use mathlib.Core.Path.{refl, sym}
 use Rattle.engine.proofs.Steps.{told}
-use Rattle.engine.proofs.RunLaws.{ready, at_root, ran_is, concludable, run_is}
+use Rattle.engine.proofs.RunLaws.{ready, line_of_root, ran_is, concludable, run_is}
 use Rattle.engine.proofs.state.started.Goals as goal
 
 pub invariant_of-setting : goal.invariant_of-setting
@@ -13,7 +13,7 @@ pub packed_node-r-requires-clause-ready : goal.packed_node-r-requires-clause-rea
 packed_node-r-requires-clause-ready c = ready _ c.requires _ refl _ c.capacity_of-room.ensures _ (c.new-state.ensures _ _)
 
 pub packed_node-r-requires-clause-line : goal.packed_node-r-requires-clause-line
-packed_node-r-requires-clause-line c = at_root _ c.requires
+packed_node-r-requires-clause-line c = line_of_root _ c.requires
 
 pub conclude-requires : goal.conclude-requires
 conclude-requires c =
