@@ -4,7 +4,7 @@
 //! cargo run --release -p parser-core --example root -- ../examples/two-roots 39
 //! ```
 //!
-//! Without a number it starts at the last line, and prints what `planread` prints.
+//! Without a number it starts at the last line, as `planread` does.
 
 mod grammar;
 #[path = "grammar/listing.rs"]

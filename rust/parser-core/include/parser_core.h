@@ -1,9 +1,9 @@
 /* The proved parser core for C. Link libparser_core.a (bash tools/staticlib.sh).
  *
  * Number, place, count and what stands in the areas are document 01's, for all input; the root and the
- * counted calls are document 02's. A pointer names as many items as the length behind it says; the areas that
- * are written (tokens, report, scratch, and the nodes of a reading) overlap nothing else that is
- * passed. */
+ * counted calls are document 02's. A pointer names as many items as the length behind it says; the
+ * areas that are written (tokens, report, scratch, and the nodes of a reading) overlap nothing else
+ * that is passed. */
 #ifndef PARSER_CORE_H
 #define PARSER_CORE_H
 

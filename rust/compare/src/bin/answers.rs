@@ -301,7 +301,7 @@ fn draw(rng: &mut Rng, number: u32) -> Option<Case> {
         _ => probe::case(rng),
     };
     match number {
-        // A damaged sheet may end elsewhere.
+        // A damaged sheet may have another last line.
         4..=9 => case = damage::damage(rng, case).from_last_line(),
         15 => case = full_stack(rng),
         13 => {}

@@ -1,4 +1,4 @@
-//! A grammar and a text from a folder of examples/, as `planread` reads them, and its runs.
+//! A grammar and a text from a folder of examples/, and its runs, with `planread`'s areas.
 
 use std::fs;
 use std::path::Path;
@@ -33,7 +33,7 @@ impl Grammar {
     }
 
     pub fn run(&self, root: u32, call_limit: u32) -> Answer {
-        let (mut tokens, mut report) = (vec![0; 5 * 65_536], vec![0; REPORT]);
+        let (mut tokens, mut report) = (vec![0; 16_380], vec![0; REPORT]);
         let mut scratch = vec![0; SCRATCH];
         let [t, r, s] = [&mut tokens[..], &mut report, &mut scratch];
         let Grammar { nodes, literals, text } = self;
