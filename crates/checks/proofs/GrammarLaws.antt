@@ -1,5 +1,5 @@
 -- The table of kinds as the code reads it: pest's boundaries are a text's character edges, and the code's twenty rows are the definition's.
-use mathlib.Core.Path.{◌≡◌, refl, sym, ◌∙◌}
+use mathlib.Core.Path.{◌≡◌, refl, sym, ap, ◌∙◌}
 use mathlib.Core.Bool.{Bool, true, false, ◌&&◌, ◌||◌}
 use mathlib.Core.List.{List, [], ◌∷◌}
 use Prim.Native.Nat.{ℕ, ◌-◌}
@@ -30,6 +30,10 @@ boundary_is x n u = both (is_char_boundary x n) (edge x n) to_edge
         rw (le-leb n (length x) s.inside) ((is_utf8_iff (drop n x)).1 s.whole)
 
 -- ── The rows ──
+-- Lower than a number that is the line's.
+pub lower_by : (field : ℤ) {lower : Bool} {m l : ℕ} → lower ≡ between 1 (m - 1) field → m ≡ l → lower ≡ between 1 (l - 1) field
+lower_by field e same = e ∙ ap (λ (n : ℕ). between 1 (n - 1) field) same
+
 -- The table over the tests that its rows are made of.
 abbrev pub rows_of : (literal scalar_a scalar_b count_a nil_a nil_b nil_c : Bool)
     → (lower_a lower_b name_a called positive atomicity with_end without : Bool) → List Bool

@@ -1,4 +1,4 @@
-// The call tracker: counted calls, the call limit and the cause, by value; and `enter`, which is lent it.
+// The call tracker: counted calls, the call limit and the cause, by value; `enter`, which is lent it; and `check_limit`, which lends it.
 ghost use Rattle.std.specs.Prelude.{◌≡◌, false, None, ltb};
 ghost use Rattle.reading.specs.Reading.{over};
 ghost use Rattle.checks.specs.Tracker.{one_more, by_depth, entry_at, answered};
@@ -87,5 +87,21 @@ pub fn enter(tracker: &mut CallLimitTracker, count_call: bool, room: usize) -> b
             *tracker = next;
             false
         }
+    }
+}
+
+// An entry for whoever holds the tracker by value: it is lent to `enter`, and comes back in the answer.
+pub fn check_limit(
+    t: CallLimitTracker,
+    count_call: bool,
+    room: usize,
+) -> Result<CallLimitTracker, CallLimitTracker>
+    ensures { result ≡ entry_at (ltb 0 room) count_call t }
+{
+    let mut tracker = t;
+    if enter(&mut tracker, count_call, room) {
+        Ok(tracker)
+    } else {
+        Err(tracker)
     }
 }

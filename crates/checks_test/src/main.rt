@@ -2,7 +2,7 @@
 // line a case, with what was answered. What is to be written was worked out from document 01.
 #![tactic(auto)]
 
-use checks::call_limit_tracker::{CallLimitTracker, enter, entered};
+use checks::call_limit_tracker::{CallLimitTracker, check_limit, entered};
 use checks::grammar::refusal;
 use checks::node::{is_top_down, natural_of, normalize_end, normalize_index};
 use checks::packed::{packed, unpacked};
@@ -240,15 +240,13 @@ fn answer(rt: &impl Print, came: Result<CallLimitTracker, CallLimitTracker>) -> 
     }
 }
 
-// By value, then lent.
+// By value, then lent: `check_limit` makes a local of the tracker and lends it to `enter`.
 fn entry(rt: &impl Print, t: CallLimitTracker, counted: bool, room: usize) -> io::Result<()> {
     let call = if counted { "a counted call" } else { "a call" };
     print!(rt; "{}; {call}, room for {room}: ", Shown(t))?;
     answer(rt, entered(t, counted, 0 < room))?;
-    let mut lent = t;
-    let let_in = enter(&mut lent, counted, room);
     print!(rt; "  lent: ")?;
-    answer(rt, if let_in { Ok(lent) } else { Err(lent) })
+    answer(rt, check_limit(t, counted, room))
 }
 
 fn at(current: u64, limit: u64) -> CallLimitTracker {
