@@ -1,5 +1,5 @@
-// 16-bit words, low byte first, of which a list of answers is made.
-ghost use Rattle.std.specs.Prelude.{length};
+// 16-bit words, low byte first, of which a list of answers is made. Every read is total, so a damaged list can only disagree.
+ghost use Rattle.std.specs.Prelude.{◌≤◌, length};
 ghost use Rattle.std.specs.Iterator.{at_most};
 
 use crate::answer::Difference;
@@ -9,6 +9,8 @@ use std::alloc::{AllocError, AllocFailed, Global};
 #[derive(Clone, Copy)]
 pub(crate) enum Fault {
     Differs(Difference),
+    // The running number of a case that is longer than this program allows.
+    NoRoom(u32),
     NotWhole,
     NoMemory,
 }
@@ -25,34 +27,29 @@ impl From<AllocFailed<i32>> for Fault {
     }
 }
 
-pub(crate) fn words_of(alloc: Global, file: &[u8]) -> Result<Vec<u16>, AllocError> {
-    let (pairs, _) = file.as_chunks();
-    pairs
-        .iter()
-        .map(|pair| u16::from_le_bytes(*pair))
-        .collect(alloc)
-}
-
 // The records of a list, one after the other: the first word of each is its length. One that is not whole is all that is left.
 #[derive(Drop)]
-pub(crate) struct Records<'a>(pub(crate) &'a [u16]);
+pub(crate) struct Records<'a>(pub(crate) &'a [u8]);
 
 impl<'a> Iterator for Records<'a> {
-    type Item = &'a [u16];
+    type Item = &'a [u8];
 
     ghost remaining = { λ s. at_most (length s.0.now) };
 
-    fn next(&mut self) -> Option<&'a [u16]> {
-        let words = self.0;
-        let length = usize::from(*words.first()?);
-        match words.split_at_checked(length) {
+    fn next(&mut self) -> Option<&'a [u8]> {
+        let bytes = self.0;
+        if bytes.is_empty() {
+            return None;
+        }
+        let length = Words(bytes).length() * 2;
+        match bytes.split_at_checked(length) {
             Some((record, others)) if 0 < length => {
                 self.0 = others;
                 Some(record)
             }
             _ => {
                 self.0 = &[];
-                Some(words)
+                Some(bytes)
             }
         }
     }
@@ -67,49 +64,55 @@ pub(crate) struct Input {
 
 // What is left of a record.
 #[derive(Drop)]
-pub(crate) struct Words<'a>(pub(crate) &'a [u16]);
+pub(crate) struct Words<'a>(pub(crate) &'a [u8]);
 
 impl<'a> Words<'a> {
-    fn next(&mut self) -> Result<u16, Fault> {
-        let (word, others) = self.0.split_first().ok_or(Fault::NotWhole)?;
+    // 0 behind the record's end.
+    fn next(&mut self) -> u16 {
+        let Some((word, others)) = self.0.split_first_chunk() else {
+            return 0;
+        };
         self.0 = others;
-        Ok(*word)
+        u16::from_le_bytes(*word)
     }
 
-    fn next_few(&mut self, count: usize) -> Result<&'a [u16], Fault> {
-        let (words, others) = self.0.split_at_checked(count).ok_or(Fault::NotWhole)?;
+    // So many bytes, or all that are left.
+    fn next_bytes(&mut self, count: usize) -> &'a [u8] {
+        let (bytes, others) = self.0.split_at(count.min(self.0.len()));
         self.0 = others;
-        Ok(words)
+        bytes
     }
 
-    pub(crate) fn number(&mut self) -> Result<u32, Fault> {
-        self.next().map(u32::from)
+    pub(crate) fn number(&mut self) -> u32 {
+        u32::from(self.next())
     }
 
-    pub(crate) fn length(&mut self) -> Result<usize, Fault> {
-        self.next().map(usize::from)
+    pub(crate) fn length(&mut self) -> usize
+        ensures { result ≤ 65535 }
+    {
+        usize::from(self.next())
     }
 
     // Two words, the low one first.
-    pub(crate) fn long(&mut self) -> Result<u32, Fault> {
-        let low = self.number()?;
-        let high = self.number()?;
-        Ok(high << 16 | low)
+    pub(crate) fn long(&mut self) -> u32 {
+        let low = self.number();
+        let high = self.number();
+        high << 16 | low
     }
 
     // A node number: one word, or the least one and two words.
-    fn node(&mut self) -> Result<i32, Fault> {
-        match self.next()?.cast_signed() {
-            i16::MIN => Ok(self.long()?.cast_signed()),
-            n => Ok(i32::from(n)),
+    fn node(&mut self) -> i32 {
+        match self.next().cast_signed() {
+            i16::MIN => self.long().cast_signed(),
+            n => i32::from(n),
         }
     }
 
-    // Those that are not given are of lines 5, 0, 0, 0.
+    // Those that are not given are of lines 5, 0, 0, 0. Of more than there are in all the rest is not read.
     pub(crate) fn nodes(&mut self, alloc: Global, input: Input) -> Result<Vec<i32>, Fault> {
-        let mut nodes = Vec::new(alloc);
-        for _ in 0..input.given {
-            nodes.push(self.node()?)?;
+        let mut nodes = Vec::with_capacity(alloc, input.length)?;
+        for _ in 0..input.given.min(input.length) {
+            nodes.push(self.node())?;
         }
         for i in input.given..input.length {
             nodes.push(if i % 4 == 0 { 5 } else { 0 })?;
@@ -117,19 +120,23 @@ impl<'a> Words<'a> {
         Ok(nodes)
     }
 
-    // Two a word, the first in the low byte. Those that are not given are the letter a.
+    // Two a word, the first in the low byte; 0 behind the record's end. Those that are not given are the letter a.
     pub(crate) fn bytes(&mut self, alloc: Global, input: Input) -> Result<Vec<u8>, Fault> {
-        let mut bytes = Vec::new(alloc);
-        for word in self.next_few(input.given.div_ceil(2))? {
-            bytes.extend_from_slice(&word.to_le_bytes())?;
-        }
-        bytes.truncate(input.given);
+        let mut bytes = Vec::with_capacity(alloc, input.given.max(input.length))?;
+        bytes.extend_from_slice(self.next_bytes(input.given))?;
+        self.next_bytes(input.given % 2);
+        bytes.resize(input.given, 0)?;
         bytes.resize(input.length, b'a')?;
         Ok(bytes)
     }
 
-    // All that is left.
-    pub(crate) fn numbers(&self, alloc: Global) -> Result<Vec<u32>, AllocError> {
-        self.0.iter().copied().map(u32::from).collect(alloc)
+    // All that is left, but no more than so many.
+    pub(crate) fn numbers(&self, alloc: Global, most: usize) -> Result<Vec<u32>, AllocError> {
+        let (words, _) = self.0.as_chunks();
+        words
+            .iter()
+            .take(most)
+            .map(|word| u32::from(u16::from_le_bytes(*word)))
+            .collect(alloc)
     }
 }
