@@ -1,83 +1,95 @@
 // A case: its name, node lines, text, settings and literals, with colons between them.
-use crate::nodes::nodes_of;
+ghost use Rattle.std.specs.Prelude.{◌≤◌};
+
+use crate::digits::written;
+use crate::nodes::put_all;
 use crate::show::Area;
 use engine::state::{RunOutcome, run};
-use std::alloc::{AllocError, Global};
 use std::io;
-use std::str::FromStr;
 
 #[derive(Clone, Copy)]
 pub(crate) struct Case<'a> {
-    name: &'a str,
-    lines: &'a str,
-    text: &'a str,
-    settings: &'a str,
-    literals: &'a str,
+    name: &'a [u8],
+    lines: &'a [u8],
+    text: &'a [u8],
+    settings: &'a [u8],
+    literals: &'a [u8],
 }
 
-// The number that is written, if one is.
-pub(crate) fn parsed<N: FromStr + Drop>(digits: Option<&str>) -> Option<N>
-where
-    N::Err: Drop,
+// The length that is written, or another; that of the area where it has no more.
+fn length_or(digits: Option<&[u8]>, other: usize, area: usize) -> usize
+    ensures { result ≤ area }
 {
-    digits?.parse().ok()
+    written(digits).map_or(other, |n| n as usize).min(area)
 }
 
-// Letters over and over, so many in all.
-fn repeated(alloc: Global, letters: &str, n: usize) -> Result<Vec<u8>, AllocError> {
-    letters.bytes().cycle().take(n).collect(alloc)
+// Letters over and over. Where there are none, what stands there stays.
+fn repeat(letters: &[u8], text: &mut [u8]) {
+    for (place, letter) in text.iter_mut().zip(letters.iter().cycle()) {
+        *place = *letter;
+    }
 }
 
 impl<'a> Case<'a> {
     // `abc` stands for literals that are not written.
-    pub(crate) fn of(line: &'a str) -> Self {
-        let mut parts = line.split(':');
+    pub(crate) fn of(line: &'a [u8]) -> Self {
+        let mut parts = line.split(|b| *b == b':');
         Case {
-            name: parts.next().unwrap_or(""),
-            lines: parts.next().unwrap_or(""),
-            text: parts.next().unwrap_or(""),
-            settings: parts.next().unwrap_or(""),
-            literals: parts.next().unwrap_or("abc"),
+            name: parts.next().unwrap_or(b""),
+            lines: parts.next().unwrap_or(b""),
+            text: parts.next().unwrap_or(b""),
+            settings: parts.next().unwrap_or(b""),
+            literals: match parts.next() {
+                None | Some([]) => b"abc",
+                Some(letters) => letters,
+            },
         }
     }
 
+    // The settings, with commas between them: the depth limit, the call limit, the lengths of tokens, report and scratch, those of text and
+    // literals, whose letters are then written over and over, that of the nodes, and the root line.
     // The areas are full of nines before the run, so that what it writes is seen. The counted calls stand behind the semicolon.
-    pub(crate) fn run(self, rt: &(impl Print + AllocGlobal)) -> io::Result<()> {
-        let alloc = rt.alloc();
-        let mut settings = self.settings.split(',');
-        let depth_limit = parsed(settings.next()).unwrap_or(1024);
-        let call_limit = parsed(settings.next()).unwrap_or(0);
-        let mut tokens = vec![in alloc; 9; parsed(settings.next()).unwrap_or(12)]?;
-        let mut report = vec![in alloc; 9; parsed(settings.next()).unwrap_or(516)]?;
-        let mut scratch = vec![in alloc; 9; parsed(settings.next()).unwrap_or(4864)]?;
-        // The text's letters and those of the literals are written over and over, where a length is given.
-        let text_length = parsed(settings.next()).unwrap_or(self.text.len());
-        let text = repeated(alloc, self.text, text_length)?;
-        let literals_length = parsed(settings.next()).unwrap_or(self.literals.len());
-        let literals = repeated(alloc, self.literals, literals_length)?;
-        let mut nodes = nodes_of(alloc, self.lines)?;
-        nodes.truncate(parsed(settings.next()).unwrap_or(nodes.len()));
+    pub(crate) fn run(self, rt: &impl Print) -> io::Result<()> {
+        let mut tokens = [9u32; 40];
+        let mut report = [9u32; 516];
+        let mut scratch = [9u32; 4864];
+        let mut text = [0u8; 65536];
+        let mut literals = [0u8; 65536];
+        let mut nodes = [[0i32; 4]; 4097];
+        let mut settings = self.settings.split(|b| *b == b',');
+        let depth_limit = written(settings.next()).unwrap_or(1024);
+        let call_limit = written(settings.next()).unwrap_or(0);
+        let tokens = &mut tokens[..length_or(settings.next(), 12, 40)];
+        let report = &mut report[..length_or(settings.next(), 516, 516)];
+        let scratch = &mut scratch[..length_or(settings.next(), 4864, 4864)];
+        let text = &mut text[..length_or(settings.next(), self.text.len(), 65536)];
+        repeat(self.text, text);
+        let literals = &mut literals[..length_or(settings.next(), self.literals.len(), 65536)];
+        repeat(self.literals, literals);
+        let lines = put_all(&mut nodes, self.lines);
+        let nodes = nodes.as_flattened();
+        let nodes = &nodes[..length_or(settings.next(), lines as usize * 4, 16388)];
         let last_line = u32::try_from(nodes.len() / 4).unwrap_or(u32::MAX);
-        let root = parsed(settings.next()).unwrap_or(last_line);
+        let root = written(settings.next()).unwrap_or(last_line);
         let RunOutcome { outcome, calls } = run(
-            nodes.as_slice(),
-            literals.as_slice(),
-            text.as_slice(),
+            nodes,
+            literals,
+            text,
             root,
             depth_limit,
             call_limit,
-            tokens.as_mut_slice(),
-            report.as_mut_slice(),
-            scratch.as_mut_slice(),
+            tokens,
+            report,
+            scratch,
         );
+        rt.write_all(self.name)?;
         println!(rt;
-            "{}: {} {} {}; {calls} |{} |{}",
-            self.name,
+            ": {} {} {}; {calls} |{} |{}",
             outcome.number,
             outcome.place,
             outcome.count,
-            Area(tokens.as_slice()),
-            Area(report.as_slice())
+            Area(tokens),
+            Area(report)
         )
     }
 }

@@ -1,0 +1,22 @@
+// Numbers that are written in bytes.
+
+// A number with one more digit. What is no digit counts as 0, and a number of 100,000 or more takes no more digits.
+fn with_digit(n: u32, b: u8) -> u32 {
+    match b {
+        _ if n >= 100000 => n,
+        b'0'..=b'9' => n * 10 + u32::from(b - b'0'),
+        _ => n * 10,
+    }
+}
+
+pub(crate) fn number(digits: &[u8]) -> u32 {
+    digits.iter().fold(0, |n, b| with_digit(n, *b))
+}
+
+// The number that is written, if one is.
+pub(crate) fn written(digits: Option<&[u8]>) -> Option<u32> {
+    match digits? {
+        [] => None,
+        digits => Some(number(digits)),
+    }
+}
