@@ -5,8 +5,12 @@ use Rattle.matching.proofs.Lead.{row_gap, row_over}
 use Rattle.matching.proofs.Steps.{no_row, by_its_row}
 use Rattle.matching.proofs.utf8.beyond_ascii.Goals as goal
 
-pub returns-in-194-to-223 : goal.returns-in-194-to-223
-returns-in-194-to-223 c =
+pub returns-then-a-lt194 : goal.returns-then-a-lt194
+returns-then-a-lt194 c =
+    sym (no_row c.args.s.now c.args.at c.args.a c.requires.0 c.requires.1 (row_gap c.args.a (omega arith) (omega arith)))
+
+pub returns-then-a-lt224 : goal.returns-then-a-lt224
+returns-then-a-lt224 c =
     by_its_row c.args.s.now c.args.at c.args.a c.requires.0 c.requires.1 1 refl (omega arith) (omega arith) c.of_two.ensures
 
 pub returns-in-224 : goal.returns-in-224
