@@ -1,7 +1,7 @@
 // A case: its name, node lines, text, settings and literals, with colons between them.
 ghost use Rattle.std.specs.Prelude.{◌≤◌};
 
-use crate::digits::written;
+use crate::digits::{exact, written};
 use crate::nodes::put_all;
 use crate::show::Area;
 use engine::state::{RunOutcome, run};
@@ -70,7 +70,7 @@ impl<'a> Case<'a> {
         let nodes = nodes.as_flattened();
         let nodes = &nodes[..length_or(settings.next(), lines as usize * 4, 16388)];
         let last_line = u32::try_from(nodes.len() / 4).unwrap_or(u32::MAX);
-        let root = written(settings.next()).unwrap_or(last_line);
+        let root = exact(settings.next()).unwrap_or(last_line);
         let RunOutcome { outcome, calls } = run(
             nodes,
             literals,
