@@ -17,6 +17,7 @@ use std::rt::Files;
 use std::{fs, io};
 
 // Reads until the buffer is full, the input ends or a read fails; answers how many bytes that were. They are the reader's next ones.
+// Kept: a loop of its own, as in planread's print.rt, which is another program.
 fn read_full<R: Read>(reader: &mut R, buf: &mut [u8]) -> usize
     ensures bound { result ≤ length buf.new }
     ensures bytes { Consumes (R.remaining reader.old) (R.remaining reader.new) (take result buf.new) }

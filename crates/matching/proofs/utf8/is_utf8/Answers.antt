@@ -4,9 +4,9 @@ use native.Mathlib.Omega.{arith}
 use Rattle.matching.proofs.Steps.{ascii, inside, utf8_more, utf8_fails, utf8_done}
 use Rattle.matching.proofs.utf8.is_utf8.Goals as goal
 
-pub loop-at-preserved-then-s-at-lt128 : goal.loop-at-preserved-then-s-at-lt128
-loop-at-preserved-then-s-at-lt128 c =
-    let e = ascii c.args.s.now c.loop-at.at _ c.loop-at-test.true refl c.if-s-at-lt128.true in
+pub loop-at-preserved-then-a-lt128 : goal.loop-at-preserved-then-a-lt128
+loop-at-preserved-then-a-lt128 c =
+    let e = ascii c.args.s.now c.loop-at.at _ c.loop-at-test.true refl c.if-a-lt128.true in
     (omega arith, sym (utf8_more c.args.s.now c.loop-at.at _ e) ∙ c.loop-at.invariant.1)
 
 pub returns-in_default : goal.returns-in_default

@@ -3,7 +3,7 @@ use mathlib.Core.Path.{refl, sym}
 use native.Mathlib.Omega.{arith}
 use Rattle.matching.proofs.Lead.{row_gap, row_over}
 use Rattle.matching.proofs.Steps.{no_row, by_its_row}
-use Rattle.matching.proofs.utf8.beyond_ascii.Goals as goal
+use Rattle.matching.proofs.utf8.multibyte.Goals as goal
 
 pub returns-then-a-lt194 : goal.returns-then-a-lt194
 returns-then-a-lt194 c =
