@@ -20,7 +20,7 @@ pub(crate) enum Halt {
     At(usize),
 }
 
-// A line of kind 1 to 5. Stands in its two callers, as `walk` takes most lines of a run: left to the compiler it is a call, and a run of
+// A line of kind 1 to 5. Stands in its callers, as `walk` takes most lines of a run: left to the compiler it is a call, and a run of
 // the JSON sheet takes 8 % longer (docs/BENCHMARKS.md).
 // Kept: a `match` on the kind's number, which is document 01's and C's; each arm calls a function of another shape.
 #[inline(always)]

@@ -94,9 +94,10 @@ pub(crate) fn close_rule(tokens: &mut [u32], s: &mut ParserState, room: usize, b
     if room <= n.0 {
         return Ending::Stop(Cause::TokensFull(b.line));
     }
+    let next = TokenIndex(n.0 + 1);
     pair_up(tokens, b.index, n);
     push_end(tokens, n, b.index, b.rule, s.position);
-    s.queue = TokenIndex(n.0 + 1);
+    s.queue = next;
     Ending::Ok
 }
 
